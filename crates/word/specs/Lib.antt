@@ -1,0 +1,3 @@
+-- What the word layer means, by subject. Assumes nothing.
+--     Words    a bit of a word
+pub mod Words

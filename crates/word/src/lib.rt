@@ -1,0 +1,4 @@
+// Layer 1: 16-bit words. Every function takes all values of its types, and its promise is one
+// equation to a definition in specs/.
+pub mod long;
+pub mod shifts;
