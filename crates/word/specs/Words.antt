@@ -1,7 +1,34 @@
--- A bit of a word, counted from 0 at the low end. Assumes nothing.
-use Prim.Native.Nat.{ℕ, _/_, _%_, _^_}
-use mathlib.Core.Bool.{Bool}
+-- The parts of a word: a bit, a byte, the bits that a mask names; and two words joined to a double word. The logical
+-- operations themselves are the library's `bitAnd`, `bitOr` and `bitXor` (`lib.Bits`). Assumes nothing.
+use Prim.Native.Nat.{ℕ, _+_, _-_, _*_, _/_, _%_, _^_}
+use mathlib.Core.Bool.{Bool, cond}
 use lib.Dec.{eqb}
+use lib.Bits.{bitAnd}
 
+-- bits are counted from 0 at the low end
 abbrev pub bit : ℕ → ℕ → Bool
 bit k w = eqb (w / 2 ^ k % 2) 1
+
+-- what a bit weighs: 1 or 0
+abbrev pub weight : Bool → ℕ
+weight e = cond e 1 0
+
+abbrev pub complemented : ℕ → ℕ
+complemented w = 0o177777 - w
+
+-- the odd byte is the low one (01: "even is the high byte")
+abbrev pub byteOf : Bool → ℕ → ℕ
+byteOf odd w = cond odd (w % 256) (w / 256)
+
+abbrev pub withByte : Bool → ℕ → ℕ → ℕ
+withByte odd w x = cond odd (w / 256 * 256 + x) (x * 256 + w % 256)
+
+-- 01, SBS CBS TBS
+abbrev pub bitsCleared : ℕ → ℕ → ℕ
+bitsCleared mask w = bitAnd w (complemented mask)
+
+abbrev pub everyBitSet : ℕ → ℕ → Bool
+everyBitSet mask w = eqb (bitAnd w mask) mask
+
+abbrev pub joined : ℕ → ℕ → ℕ
+joined b a = b * 0o200000 + a

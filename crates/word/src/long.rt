@@ -1,4 +1,7 @@
-// The long shifts of B,A.
+// The long shifts of B,A, a place at a time.
+ghost use mathlib.Core.Path.{_≡_};
+ghost use Rattle.word.specs.Long.{places, longShifted};
+
 pub enum LongShift {
     Asl,
     Lsl,
@@ -6,4 +9,10 @@ pub enum LongShift {
     Asr,
     Lsr,
     Rrr,
+}
+
+pub struct Long {
+    pub b: u16,
+    pub a: u16,
+    pub o: bool,
 }

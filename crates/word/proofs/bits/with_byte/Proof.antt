@@ -1,0 +1,33 @@
+use borrow.Author.Needs.{needs}
+use Rattle.word.proofs.bits.with_byte.Statement.{statement}
+use Rattle.word.proofs.bits.with_byte.Tie as tie
+use Rattle.word.proofs.bits.with_byte.Reads as reads
+use Rattle.word.proofs.bits.with_byte.Lts as lts
+
+-- src/bits.rt:50:9
+mul-result : tie.Need-mul-result
+mul-result c = search needs
+
+-- src/bits.rt:50:9
+add-result : tie.Need-add-result
+add-result c = search needs
+
+-- src/bits.rt:52:9
+mul-result-2 : tie.Need-mul-result-2
+mul-result-2 c = search needs
+
+-- src/bits.rt:52:9
+add-result-2 : tie.Need-add-result-2
+add-result-2 c = search needs
+
+-- src/bits.rt:46:1
+returns : tie.Need-returns
+returns c = ?
+
+-- src/bits.rt:46:1
+returns-2 : tie.Need-returns-2
+returns-2 c = ?
+
+pub with-byte-spec : {M : Type 1} → statement M
+with-byte-spec =
+    tie.close (tie.spec mul-result add-result mul-result-2 add-result-2 returns returns-2)

@@ -1,0 +1,22 @@
+use borrow.Author.Needs.{needs}
+use Rattle.word.proofs.shifts.shift.Statement.{statement}
+use Rattle.word.proofs.shifts.shift.Tie as tie
+use Rattle.word.proofs.shifts.shift.Reads as reads
+use Rattle.word.proofs.shifts.shift.Lts as lts
+use Rattle.word.proofs.shifts.extend.Reads as extend-reads
+use Rattle.word.proofs.shifts.turn.Reads as turn-reads
+
+-- src/shifts.rt:52:15
+turn-requires : tie.Need-turn-requires
+turn-requires c κs = search needs
+
+-- src/shifts.rt:53:12
+extend-requires : tie.Need-extend-requires
+extend-requires c κs = search needs
+
+-- src/shifts.rt:48:1
+returns : tie.Need-returns
+returns c = ?
+
+pub shift-spec : {M : Type 1} → statement M
+shift-spec = tie.close (tie.spec turn-requires extend-requires returns)
