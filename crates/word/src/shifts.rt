@@ -38,9 +38,14 @@ fn extend(code: ShiftCode, word: u16, e: bool) -> bool
     ensures { λ r. ⌜ r ≡ extended code word e ⌝ }
 {
     match code {
+        ShiftCode::Als => e,
+        ShiftCode::Ars => e,
+        ShiftCode::Ral => e,
+        ShiftCode::Rar => e,
+        ShiftCode::Alr => e,
         ShiftCode::Era => word % 2 == 1,
         ShiftCode::Ela => word / 0o100000 % 2 == 1,
-        _ => e,
+        ShiftCode::Alf => e,
     }
 }
 

@@ -14,12 +14,12 @@ pub fn add(a: u16, b: u16) -> Sum
     ensures { λ r. ⌜ r ≡ sum a b ⌝ }
 {
     let word = std::num::wrapping_add_u16(a, b);
-    let kept = word / 32768 == a / 32768;
-    let differ = a / 32768 != b / 32768;
+    // The carry into bit 15, against the carry out of it.
+    let into = 0o100000 <= a % 0o100000 + b % 0o100000;
     Sum {
         word: word,
         carry: word < a,
-        overflow: !(kept || differ),
+        overflow: into != (word < a),
     }
 }
 

@@ -4,21 +4,17 @@ use Rattle.word.proofs.bits.byte_of.Tie as tie
 use Rattle.word.proofs.bits.byte_of.Reads as reads
 use Rattle.word.proofs.bits.byte_of.Lts as lts
 
--- src/bits.rt:40:9
 cast-result : tie.Need-cast-result
 cast-result c = search needs
 
--- src/bits.rt:42:9
 cast-result-2 : tie.Need-cast-result-2
 cast-result-2 c = search needs
 
--- src/bits.rt:36:1
 returns : tie.Need-returns
-returns c = ?
+returns c = rw (c .if1 .taken)
 
--- src/bits.rt:36:1
 returns-2 : tie.Need-returns-2
-returns-2 c = ?
+returns-2 c = rw (c .if1 .left)
 
 pub byte-of-spec : {M : Type 1} → statement M
 byte-of-spec = tie.close (tie.spec cast-result cast-result-2 returns returns-2)

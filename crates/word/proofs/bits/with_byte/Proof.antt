@@ -4,29 +4,23 @@ use Rattle.word.proofs.bits.with_byte.Tie as tie
 use Rattle.word.proofs.bits.with_byte.Reads as reads
 use Rattle.word.proofs.bits.with_byte.Lts as lts
 
--- src/bits.rt:50:9
 mul-result : tie.Need-mul-result
 mul-result c = search needs
 
--- src/bits.rt:50:9
 add-result : tie.Need-add-result
 add-result c = search needs
 
--- src/bits.rt:52:9
 mul-result-2 : tie.Need-mul-result-2
 mul-result-2 c = search needs
 
--- src/bits.rt:52:9
 add-result-2 : tie.Need-add-result-2
 add-result-2 c = search needs
 
--- src/bits.rt:46:1
 returns : tie.Need-returns
-returns c = ?
+returns c = rw (c .if1 .taken)
 
--- src/bits.rt:46:1
 returns-2 : tie.Need-returns-2
-returns-2 c = ?
+returns-2 c = rw (c .if1 .left)
 
 pub with-byte-spec : {M : Type 1} → statement M
 with-byte-spec =

@@ -1,19 +1,17 @@
+use borrow.Author.Tests.{lt-ltb, le-ltb}
 use Rattle.word.proofs.orders.compare_bytes.Statement.{statement}
 use Rattle.word.proofs.orders.compare_bytes.Tie as tie
 use Rattle.word.proofs.orders.compare_bytes.Reads as reads
 use Rattle.word.proofs.orders.compare_bytes.Lts as lts
 
--- src/orders.rt:25:1
 returns : tie.Need-returns
-returns c = ?
+returns c = rw (lt-ltb _ _ (c .if1 .taken))
 
--- src/orders.rt:25:1
 returns-2 : tie.Need-returns-2
-returns-2 c = ?
+returns-2 c = rw (le-ltb _ _ (c .before .if1 .left), lt-ltb _ _ (c .if2 .taken))
 
--- src/orders.rt:25:1
 returns-3 : tie.Need-returns-3
-returns-3 c = ?
+returns-3 c = rw (le-ltb _ _ (c .before .if1 .left), le-ltb _ _ (c .if2 .left))
 
 pub compare-bytes-spec : {M : Type 1} → statement M
 compare-bytes-spec = tie.close (tie.spec returns returns-2 returns-3)

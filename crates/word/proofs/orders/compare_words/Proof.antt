@@ -1,29 +1,56 @@
+-- `word::orders::compare_words` meets its contract: the two signed locals, read back from their bits, are the words' values.
+-- Assumes nothing.
 use borrow.Author.Needs.{needs}
+use Prim.Native.Nat.{ℕ}
+use mathlib.Core.Path.{_≡_}
+use mathlib.Core.Bool.{Bool}
+use lib.IntN.{ℤ}
+use lib.Signed.{ltZ}
+use mir.Syntax.{w16}
+use mir.Val.{Fits, toZ, ofZ}
+use mir.ValLaws.{toZ-ofZ, toZ-fits}
+use Rattle.word.specs.Signed.{signed}
+use Rattle.word.specs.Orders.{orderOfWords}
 use Rattle.word.proofs.orders.compare_words.Statement.{statement}
 use Rattle.word.proofs.orders.compare_words.Tie as tie
-use Rattle.word.proofs.orders.compare_words.Reads as reads
-use Rattle.word.proofs.orders.compare_words.Lts as lts
-use Rattle.word.proofs.values.word_value.Reads as word-value-reads
 
--- src/orders.rt:14:9
+kept : (a : ℕ) (x : ℤ) → Fits w16 a → x ≡ signed w16 a → toZ w16 (ofZ w16 x) ≡ signed w16 a
+kept a x f e = rw e (toZ-ofZ w16 (signed w16 a) (toZ-fits w16 a f))
+
+-- the test on the locals is the test on the words' values
+less : {a b : ℕ} {x y : ℤ} {t : Bool} → Fits w16 a → Fits w16 b → x ≡ signed w16 a → y ≡ signed w16 b
+    → ltZ (toZ w16 (ofZ w16 x)) (toZ w16 (ofZ w16 y)) ≡ t → ltZ (signed w16 a) (signed w16 b) ≡ t
+less {a} {b} {x} {y} f g d e h = rw (kept a x f d, kept b y g e) at h
+
 word-value-requires : tie.Need-word-value-requires
 word-value-requires c κs = search needs
 
--- src/orders.rt:15:9
 word-value-requires-2 : tie.Need-word-value-requires-2
 word-value-requires-2 c κs = search needs
 
--- src/orders.rt:11:1
 returns : tie.Need-returns
-returns c = ?
+unfolding orderOfWords
+returns c =
+    let v = c .before in
+    let w = v .before in
+    let f = w .before .fits in
+    rw (less (f .a) (f .b) (w .word-value .ensures) (v .word-value2 .ensures) (c .if1 .taken))
 
--- src/orders.rt:11:1
 returns-2 : tie.Need-returns-2
-returns-2 c = ?
+unfolding orderOfWords
+returns-2 c =
+    let v = c .before .before in
+    let w = v .before in
+    let f = w .before .fits in
+    rw (less (f .a) (f .b) (w .word-value .ensures) (v .word-value2 .ensures) (c .before .if1 .left), less (f .b) (f .a) (v .word-value2 .ensures) (w .word-value .ensures) (c .if2 .taken))
 
--- src/orders.rt:11:1
 returns-3 : tie.Need-returns-3
-returns-3 c = ?
+unfolding orderOfWords
+returns-3 c =
+    let v = c .before .before in
+    let w = v .before in
+    let f = w .before .fits in
+    rw (less (f .a) (f .b) (w .word-value .ensures) (v .word-value2 .ensures) (c .before .if1 .left), less (f .b) (f .a) (v .word-value2 .ensures) (w .word-value .ensures) (c .if2 .left))
 
 pub compare-words-spec : {M : Type 1} → statement M
 compare-words-spec =

@@ -5,13 +5,11 @@ use Rattle.word.proofs.shifts.pass.Reads as reads
 use Rattle.word.proofs.shifts.pass.Lts as lts
 use Rattle.word.proofs.shifts.extend.Reads as extend-reads
 
--- src/shifts.rt:63:12
 extend-requires : tie.Need-extend-requires
 extend-requires c κs = search needs
 
--- src/shifts.rt:58:1
 returns : tie.Need-returns
-returns c = ?
+returns c = rw (← c .extend .ensures)
 
 pub pass-spec : {M : Type 1} → statement M
 pass-spec = tie.close (tie.spec extend-requires returns)

@@ -6,17 +6,14 @@ use Rattle.word.proofs.shifts.shift.Lts as lts
 use Rattle.word.proofs.shifts.extend.Reads as extend-reads
 use Rattle.word.proofs.shifts.turn.Reads as turn-reads
 
--- src/shifts.rt:52:15
 turn-requires : tie.Need-turn-requires
 turn-requires c κs = search needs
 
--- src/shifts.rt:53:12
 extend-requires : tie.Need-extend-requires
 extend-requires c κs = search needs
 
--- src/shifts.rt:48:1
 returns : tie.Need-returns
-returns c = ?
+returns c = rw (← c .before .turn .ensures, ← c .extend .ensures)
 
 pub shift-spec : {M : Type 1} → statement M
 shift-spec = tie.close (tie.spec turn-requires extend-requires returns)
