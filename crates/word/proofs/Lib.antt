@@ -5,3 +5,4 @@
 pub mod Tests
 pub mod Weights
 pub mod Carries
+pub mod Tight
