@@ -1,0 +1,109 @@
+-- Laws of the signed reading, each stated once for every width w, of a number n below 2 ^ bits w.
+--     in-range, of-bits, of-value, one-word, sign-bit    the range, bits and value inverse, one word for a value, the sign bit
+--     ends                                               the range by its two ends, -2 ^ hbits w and 2 ^ hbits w - 1
+--     complement                                         -1 less the value of the complemented bits is the value of the bits
+--     negative, not-negative, low-half                   the bits of a value by its sign; those of a word's value at 32 bits
+-- The definitions are in specs/ (`Signed`). Assumes nothing.
+use Prim.Native.Nat.{ℕ, zero, suc, _+_, _-_, _*_, _%_, _^_, _<_, _≤_}
+use mathlib.Core.Path.{_≡_, refl, sym, ap, _∙_, subst}
+use mathlib.Core.Bool.{Bool, true, false, not, cond, _&&_}
+use native.Mathlib.Omega.{arith}
+use native.Mathlib.Nat.{zero-add}
+use borrow.Author.Tests.{lt-ltb, le-ltb, le-leb, lt-leb, ltb-true, ltb-false}
+use lib.Dec.{T, ltb, leb}
+use lib.IntN.{ℤ, pos, negsuc, natAbs, _-ℤ_}
+use lib.Signed.{mag, nonNeg, ltZ, leZ}
+use lib.Pow.{pow-pos}
+use mir.Syntax.{Width, w16, w32}
+use mir.Val.{Fits, SFits, bits, hbits, toZ, ofZ}
+use mir.ValLaws.{toZ-pos, toZ-neg, toZ-ofZ, ofZ-toZ, toZ-fits, pow-bits}
+use Rattle.word.specs.Signed.{signed, bitsOf, within}
+
+pub in-range : (w : Width) (n : ℕ) → n < 2 ^ bits w → within w (signed w n) ≡ true
+in-range w n h = lt-ltb _ _ (toZ-fits w n (record { fits = h }) .sfits)
+
+pub of-bits : (w : Width) (n : ℕ) → n < 2 ^ bits w → bitsOf w (signed w n) ≡ n
+of-bits w n h = ofZ-toZ w n (record { fits = h })
+
+pub of-value : (w : Width) (z : ℤ) → within w z ≡ true → signed w (bitsOf w z) ≡ z
+of-value w z h = toZ-ofZ w z (record { sfits = ltb-true _ _ h })
+
+pub one-word : (w : Width) (n m : ℕ) → n < 2 ^ bits w → m < 2 ^ bits w → signed w n ≡ signed w m → n ≡ m
+one-word w n m h k e = sym (of-bits w n h) ∙ ap (bitsOf w) e ∙ of-bits w m k
+
+pub sign-bit : (w : Width) (n : ℕ) → nonNeg (signed w n) ≡ ltb n (2 ^ hbits w)
+sign-bit w n = by (ltb n (2 ^ hbits w)) refl
+  where
+    by : (t : Bool) → ltb n (2 ^ hbits w) ≡ t → nonNeg (signed w n) ≡ ltb n (2 ^ hbits w)
+    by true e = rw e
+    by false e = rw e
+
+-- -1 less z
+abbrev pub mirrored : ℤ → ℤ
+mirrored (pos n) = negsuc n
+mirrored (negsuc n) = pos n
+
+pub minus-one-less : (z : ℤ) → negsuc 0 -ℤ z ≡ mirrored z
+minus-one-less (pos zero) = refl
+minus-one-less (pos (suc n)) = ap (λ (k : ℕ). negsuc (suc k)) (zero-add n)
+minus-one-less (negsuc n) = rw (le-ltb (suc n) 1 (omega arith)) (ap pos (omega arith))
+
+pub minus-one-fits : (w : Width) (z : ℤ) → SFits w z → SFits w (negsuc 0 -ℤ z)
+minus-one-fits w z h = rw (minus-one-less z) (mirrored-fits z h)
+  where
+    mirrored-fits : (z : ℤ) → SFits w z → SFits w (mirrored z)
+    mirrored-fits (pos n) h = record { sfits = h .sfits }
+    mirrored-fits (negsuc n) h = record { sfits = h .sfits }
+
+mirrored-twice : (z : ℤ) → mirrored (mirrored z) ≡ z
+mirrored-twice (pos n) = refl
+mirrored-twice (negsuc n) = refl
+
+mirrored-bits : (w : Width) (z : ℤ) → SFits w z → signed w (2 ^ bits w - 1 - bitsOf w z) ≡ mirrored z
+mirrored-bits w (pos n) h = rw (the-same) (toZ-neg w n (h .sfits))
+  where
+    the-same : 2 ^ bits w - 1 - n ≡ 2 ^ bits w - suc n
+    the-same = omega arith
+mirrored-bits w (negsuc n) h = ap (signed w) back ∙ toZ-pos w n (h .sfits)
+  where
+    back : 2 ^ bits w - 1 - (2 ^ bits w - suc n) ≡ n
+    back = omega (arith, pow-bits w, h .sfits)
+
+pub complement : (w : Width) (n : ℕ) → n < 2 ^ bits w → negsuc 0 -ℤ signed w (2 ^ bits w - 1 - n) ≡ signed w n
+complement w n h =
+    minus-one-less (signed w (2 ^ bits w - 1 - n))
+    ∙ ap mirrored (ap (λ (k : ℕ). signed w (2 ^ bits w - 1 - k)) (sym (of-bits w n h)) ∙ mirrored-bits w (signed w n) (toZ-fits w n (record { fits = h })))
+    ∙ mirrored-twice (signed w n)
+
+pub complement-fits : (w : Width) (n : ℕ) → n < 2 ^ bits w → SFits w (negsuc 0 -ℤ signed w (2 ^ bits w - 1 - n))
+complement-fits w n h = rw (complement w n h) (toZ-fits w n (record { fits = h }))
+
+-- the range, by its ends
+below-end : (w : Width) (n : ℕ) → ltb n (2 ^ hbits w) ≡ leb n (2 ^ hbits w - 1)
+below-end w n = by (ltb n (2 ^ hbits w)) refl
+  where
+    by : (t : Bool) → ltb n (2 ^ hbits w) ≡ t → ltb n (2 ^ hbits w) ≡ leb n (2 ^ hbits w - 1)
+    by true e = e ∙ sym (le-leb n (2 ^ hbits w - 1) (omega (arith, ltb-true n (2 ^ hbits w) e)))
+    by false e = e ∙ sym (lt-leb n (2 ^ hbits w - 1) (omega (arith, ltb-false n (2 ^ hbits w) e, pow-pos (hbits w))))
+
+and-true : (t : Bool) → (t && true) ≡ t
+and-true true = refl
+and-true false = refl
+
+pub ends : (w : Width) (z : ℤ) → within w z ≡ (leZ (negsuc (2 ^ hbits w - 1)) z && leZ z (pos (2 ^ hbits w - 1)))
+ends w (pos n) = below-end w n
+ends w (negsuc n) = below-end w n ∙ sym (and-true (leb n (2 ^ hbits w - 1)))
+
+-- a value by its sign
+pub negative : (z : ℤ) → ltZ z (pos 0) ≡ true → z ≡ negsuc (mag z)
+negative (pos n) h = absurd (omega (arith, ltb-true n 0 h))
+negative (negsuc n) h = refl
+
+pub not-negative : (z : ℤ) → ltZ z (pos 0) ≡ false → z ≡ pos (mag z)
+not-negative (pos n) h = refl
+not-negative (negsuc n) h = absurd (subst T h tt)
+
+-- at 32 bits the low half of a word's value is the word
+pub low-half : (z : ℤ) → within w16 z ≡ true → bitsOf w32 z % 0o200000 ≡ bitsOf w16 z
+low-half (pos n) h = omega (arith, ltb-true n (2 ^ 15) h)
+low-half (negsuc n) h = omega (arith, ltb-true n (2 ^ 15) h)
