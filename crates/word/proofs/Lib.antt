@@ -1,1 +1,2 @@
+pub mod Quotients
 pub mod Signed

@@ -6,13 +6,13 @@
 -- The definitions are in specs/ (`Signed`). Assumes nothing.
 use Prim.Native.Nat.{ℕ, zero, suc, _+_, _-_, _*_, _%_, _^_, _<_, _≤_}
 use mathlib.Core.Path.{_≡_, refl, sym, ap, _∙_, subst}
-use mathlib.Core.Bool.{Bool, true, false, not, cond, _&&_}
+use mathlib.Core.Bool.{Bool, true, false, not, cond, _||_}
 use native.Mathlib.Omega.{arith}
 use native.Mathlib.Nat.{zero-add}
-use borrow.Author.Tests.{lt-ltb, le-ltb, le-leb, lt-leb, ltb-true, ltb-false}
-use lib.Dec.{T, ltb, leb}
+use borrow.Author.Tests.{lt-ltb, le-ltb, ltb-true, ltb-false}
+use lib.Dec.{T, ltb}
 use lib.IntN.{ℤ, pos, negsuc, natAbs, _-ℤ_}
-use lib.Signed.{mag, nonNeg, ltZ, leZ}
+use lib.Signed.{mag, nonNeg, ltZ}
 use lib.Pow.{pow-pos}
 use mir.Syntax.{Width, w16, w32}
 use mir.Val.{Fits, SFits, bits, hbits, toZ, ofZ}
@@ -79,20 +79,20 @@ pub complement-fits : (w : Width) (n : ℕ) → n < 2 ^ bits w → SFits w (negs
 complement-fits w n h = rw (complement w n h) (toZ-fits w n (record { fits = h }))
 
 -- the range, by its ends
-below-end : (w : Width) (n : ℕ) → ltb n (2 ^ hbits w) ≡ leb n (2 ^ hbits w - 1)
+below-end : (w : Width) (n : ℕ) → ltb n (2 ^ hbits w) ≡ not (ltb (2 ^ hbits w - 1) n)
 below-end w n = by (ltb n (2 ^ hbits w)) refl
   where
-    by : (t : Bool) → ltb n (2 ^ hbits w) ≡ t → ltb n (2 ^ hbits w) ≡ leb n (2 ^ hbits w - 1)
-    by true e = e ∙ sym (le-leb n (2 ^ hbits w - 1) (omega (arith, ltb-true n (2 ^ hbits w) e)))
-    by false e = e ∙ sym (lt-leb n (2 ^ hbits w - 1) (omega (arith, ltb-false n (2 ^ hbits w) e, pow-pos (hbits w))))
+    by : (t : Bool) → ltb n (2 ^ hbits w) ≡ t → ltb n (2 ^ hbits w) ≡ not (ltb (2 ^ hbits w - 1) n)
+    by true e = e ∙ sym (ap not (le-ltb (2 ^ hbits w - 1) n (omega (arith, ltb-true n (2 ^ hbits w) e))))
+    by false e = e ∙ sym (ap not (lt-ltb (2 ^ hbits w - 1) n (omega (arith, ltb-false n (2 ^ hbits w) e, pow-pos (hbits w)))))
 
-and-true : (t : Bool) → (t && true) ≡ t
-and-true true = refl
-and-true false = refl
+or-false : (t : Bool) → (t || false) ≡ t
+or-false true = refl
+or-false false = refl
 
-pub ends : (w : Width) (z : ℤ) → within w z ≡ (leZ (negsuc (2 ^ hbits w - 1)) z && leZ z (pos (2 ^ hbits w - 1)))
+pub ends : (w : Width) (z : ℤ) → within w z ≡ not (ltZ z (negsuc (2 ^ hbits w - 1)) || ltZ (pos (2 ^ hbits w - 1)) z)
 ends w (pos n) = below-end w n
-ends w (negsuc n) = below-end w n ∙ sym (and-true (leb n (2 ^ hbits w - 1)))
+ends w (negsuc n) = rw or-false (below-end w n)
 
 -- a value by its sign
 pub negative : (z : ℤ) → ltZ z (pos 0) ≡ true → z ≡ negsuc (mag z)
@@ -102,6 +102,19 @@ negative (negsuc n) h = refl
 pub not-negative : (z : ℤ) → ltZ z (pos 0) ≡ false → z ≡ pos (mag z)
 not-negative (pos n) h = refl
 not-negative (negsuc n) h = absurd (subst T h tt)
+
+-- only 0 has no bits
+pub some-bit : (w : Width) (z : ℤ) → SFits w z → (z ≡ pos 0 → ⊥) → 0 < bitsOf w z
+some-bit w (pos zero) h other = absurd (other refl)
+some-bit w (pos (suc n)) h other = omega arith
+some-bit w (negsuc n) h other = omega (arith, pow-bits w)
+
+-- a word's value at 32 bits
+pub wider : (z : ℤ) → SFits w16 z → SFits w32 z
+wider z h = record { sfits = omega arith }
+
+pub read-wider : (z : ℤ) → SFits w16 z → signed w32 (bitsOf w32 (signed w16 (bitsOf w16 z))) ≡ z
+read-wider z h = rw (toZ-ofZ w16 z h) (toZ-ofZ w32 z (wider z h))
 
 -- at 32 bits the low half of a word's value is the word
 pub low-half : (z : ℤ) → within w16 z ≡ true → bitsOf w32 z % 0o200000 ≡ bitsOf w16 z

