@@ -3,6 +3,7 @@ use Prim.Native.Nat.{ℕ, _/_, _%_}
 use mathlib.Core.Path.{_≡_, ap, _∙_}
 use lib.IntN.{_*ℤ_}
 use mir.Syntax.{w16, w32}
+use mir.Val.{SFits}
 use mir.ValLaws.{toZ-ofZ}
 use Rattle.word.specs.Signed.{signed, bitsOf}
 use Rattle.word.specs.Products.{multiplied}
@@ -15,19 +16,25 @@ use Rattle.word.proofs.products.multiply.Tie as tie
 word-value-requires : tie.Need-word-value-requires
 word-value-requires c κs = search needs
 
+x-fits : (c : tie.After-word-value) → SFits w16 (c .word-value .result)
+x-fits c = record { sfits = c .word-value .ok }
+
 cast-x : tie.Need-cast-x
-cast-x c = rw (toZ-ofZ w16 _ (c .word-value .ok)) (wider _ (c .word-value .ok))
+cast-x c = rw (toZ-ofZ w16 _ (x-fits c)) (wider _ (x-fits c))
 
 word-value-requires-2 : tie.Need-word-value-requires-2
 word-value-requires-2 c κs = search needs
 
+y-fits : (c : tie.After-word-value2) → SFits w16 (c .word-value2 .result)
+y-fits c = record { sfits = c .word-value2 .ok }
+
 cast-y : tie.Need-cast-y
-cast-y c = rw (toZ-ofZ w16 _ (c .word-value2 .ok)) (wider _ (c .word-value2 .ok))
+cast-y c = rw (toZ-ofZ w16 _ (y-fits c)) (wider _ (y-fits c))
 
 mul-double-bits : tie.Need-mul-double-bits
 mul-double-bits c =
-    rw (read-wider _ (c .before .word-value .ok), read-wider _ (c .word-value2 .ok))
-    (product-fits _ _ (c .before .word-value .ok) (c .word-value2 .ok))
+    rw (read-wider _ (x-fits (c .before)), read-wider _ (y-fits c))
+    (product-fits _ _ (x-fits (c .before)) (y-fits c))
 
 double-bits-requires : tie.Need-double-bits-requires
 double-bits-requires c κs = search needs
@@ -43,7 +50,7 @@ bits : (c : tie.After-double-bits)
 bits c =
     c .double-bits .ensures
     ∙ ap (bitsOf w32) (toZ-ofZ w32 _ (mul-double-bits (c .before)))
-    ∙ rw (read-wider _ (c .before .before .word-value .ok), read-wider _ (c .before .word-value2 .ok),
+    ∙ rw (read-wider _ (x-fits (c .before .before)), read-wider _ (y-fits (c .before)),
       c .before .before .word-value .ensures, c .before .word-value2 .ensures)
 
 returns : tie.Need-returns
