@@ -5,15 +5,22 @@
 use Prim.Native.Nat.{ℕ, zero, suc, _+_, _-_, _*_, _/_, _%_, _^_, _<_, _≤_}
 use mathlib.Core.Path.{_≡_, refl, sym, ap, _∙_, subst}
 use mathlib.Core.Logic.{_⊎_, inl, inr}
-use mathlib.Core.Bool.{Bool, true, false}
+use mathlib.Core.Bool.{Bool, true, false, cond, not, _&&_}
 use native.Mathlib.Omega.{arith}
 use native.Mathlib.Nat.{mod-lt, div-le-self, div-lt-self, div-one, div-add-mod', mul-le-mul, zero-lt-suc, zero-mul}
-use borrow.Author.Tests.{lt-ltb, le-ltb}
-use lib.Dec.{ltb}
+use borrow.Author.Tests.{eqb-false}
+use lib.Dec.{eqb}
 use lib.IntN.{ℤ, pos, negsuc, negℤ, natAbs, _+ℤ_, _*ℤ_, negℤ-+ℤ}
 use lib.Signed.{mag, nonNeg, quotZ, remZ, natAbs-le}
 use mir.Syntax.{Width, w16, w32}
 use mir.Val.{SFits, hbits}
+use mir.ValLaws.{toZ-fits, toZ-ofZ}
+use Rattle.word.specs.Words.{joined}
+use Rattle.word.specs.Signed.{signed, bitsOf, within}
+use Rattle.word.specs.Products.{multiplied, quotientOf, divided}
+use Rattle.word.specs.declared.products.Quotient.{Quotient}
+use Rattle.word.specs.declared.products.Quotient.the-variants.{Divided, Overflow}
+use Rattle.word.proofs.Signed.{of-value, one-word}
 
 negated-size : (n : ℕ) → natAbs (negℤ (pos n)) ≡ n
 negated-size zero = refl
@@ -98,3 +105,91 @@ quotient-fits w (negsuc a) (negsuc (suc b)) h except = record { sfits = omega (a
 pub remainder-fits : (w : Width) (z k : ℤ) → SFits w k → (k ≡ pos 0 → ⊥) → SFits w (remZ z k)
 remainder-fits w z k h except =
     record { sfits = omega (arith, below-size (remZ z k), remainder-size z k except, natAbs-le k (h .sfits)) }
+
+-- ---- the answers, as values
+
+-- q and r are quotient toward zero and remainder of z by k
+pub record Divides (z k q r : ℤ) : Type 0 where
+  pub dividend : q *ℤ k +ℤ r ≡ z
+  pub sign : (r ≡ pos 0) ⊎ (nonNeg r ≡ nonNeg z)
+  pub size : natAbs r < natAbs k
+
+quotient-value : (z k : ℤ) (q r : ℕ) → SFits w16 k → (k ≡ pos 0 → ⊥) → within w16 (quotZ z k) ≡ true
+    → quotientOf z k ≡ Divided q r → Divides z k (signed w16 q) (signed w16 r)
+quotient-value z k q r k-fits other q-fits e =
+    let q-is : bitsOf w16 (quotZ z k) ≡ q = cc in
+    let r-is : bitsOf w16 (remZ z k) ≡ r = cc in
+    rw (← q-is, ← r-is, of-value w16 _ q-fits, toZ-ofZ w16 _ (remainder-fits w16 z k k-fits other))
+    (record { dividend = again z k; sign = remainder-sign z k; size = remainder-size z k other })
+
+pub divided-value : (b a m q r : ℕ) → m < 2 ^ 16 → divided b a m ≡ Divided q r
+    → Divides (signed w32 (joined b a)) (signed w16 m) (signed w16 q) (signed w16 r)
+unfolding divided
+divided-value b a m q r m-fits e = by (eqb m 0) refl (within w16 (quotZ (signed w32 (joined b a)) (signed w16 m))) refl e
+  where
+    by : (t : Bool) → eqb m 0 ≡ t → (u : Bool) → within w16 (quotZ (signed w32 (joined b a)) (signed w16 m)) ≡ u
+        → cond (not t && u) (quotientOf (signed w32 (joined b a)) (signed w16 m)) Overflow ≡ Divided q r
+        → Divides (signed w32 (joined b a)) (signed w16 m) (signed w16 q) (signed w16 r)
+    by false m-some true q-fits e =
+        quotient-value _ _ q r (toZ-fits w16 m (record { fits = m-fits }))
+        (λ k. eqb-false m 0 m-some (one-word w16 m 0 m-fits (omega arith) k)) q-fits e
+    by false m-some false q-fits e = let z : _≡_ {A = ℕ} 0 1 = cc in absurd (omega arith)
+    by true m-zero u q-fits e = let z : _≡_ {A = ℕ} 0 1 = cc in absurd (omega arith)
+
+pub multiplied-value : (a m : ℕ) → a < 2 ^ 16 → m < 2 ^ 16
+    → signed w32 (joined (multiplied a m .b) (multiplied a m .a)) ≡ signed w16 a *ℤ signed w16 m
+unfolding multiplied
+multiplied-value a m a-fits m-fits =
+    ap (signed w32) (div-add-mod' (bitsOf w32 (signed w16 a *ℤ signed w16 m)) 0o200000)
+    ∙ toZ-ofZ w32 _ (product-fits _ _ (toZ-fits w16 a (record { fits = a-fits })) (toZ-fits w16 m (record { fits = m-fits })))
+
+-- ---- the ends of the range, computed
+
+-- 32,768 by -1 and -32,768 by 1: the quotient -32,768 is legal, as 32,767 is
+lowest-by-negative : divided 0 0o100000 0o177777 ≡ Divided 0o100000 0
+unfolding divided
+lowest-by-negative = refl
+
+lowest-by-positive : divided 0o177777 0o100000 1 ≡ Divided 0o100000 0
+unfolding divided
+lowest-by-positive = refl
+
+highest : divided 0 0o77777 1 ≡ Divided 0o77777 0
+unfolding divided
+highest = refl
+
+-- -32,768 by -1 is 32,768, and -32,769 by 1 and 32,769 by -1 are -32,769
+above-highest : divided 0o177777 0o100000 0o177777 ≡ Overflow
+unfolding divided
+above-highest = refl
+
+below-lowest : divided 0o177777 0o77777 1 ≡ Overflow
+unfolding divided
+below-lowest = refl
+
+below-lowest-by-negative : divided 0 0o100001 0o177777 ≡ Overflow
+unfolding divided
+below-lowest-by-negative = refl
+
+-- -2,147,483,648 by -1
+lowest-double : divided 0o100000 0 0o177777 ≡ Overflow
+unfolding divided
+lowest-double = refl
+
+by-zero : (b a : ℕ) → divided b a 0 ≡ Overflow
+unfolding divided
+by-zero b a = refl
+
+-- ---- 01's cases
+
+C7 : multiplied 0o100000 0o100000 ≡ record { b = 0o40000; a = 0 }
+unfolding multiplied
+C7 = refl
+
+C8 : divided 0o177777 0o177771 2 ≡ Divided 0o177775 0o177777
+unfolding divided
+C8 = refl
+
+C9 : divided 0 0o100000 1 ≡ Overflow
+unfolding divided
+C9 = refl
