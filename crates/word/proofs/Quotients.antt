@@ -1,13 +1,17 @@
--- Laws of the quotient toward zero and its remainder, in this order: the dividend again (`again`), the remainder's sign and
--- size (`remainder-sign`, `remainder-size`), the quotient's size (`toward-zero`); what fits: a product of two words
--- (`product-fits`), a quotient (`quotient-fits`), a remainder (`remainder-fits`); the answers of DIV and MPY as values
--- (`divided-again`, `multiplied-value`). Assumes nothing.
+-- Laws of the quotient toward zero and its remainder, and of the answers of MPY and DIV. In order:
+--     again, remainder-sign, remainder-size, toward-zero     quotient times divisor plus remainder is the dividend; the
+--                                                            remainder's sign and size; the quotient's size
+--     product-fits, quotient-fits, remainder-fits            what fits a width
+--     Divides, divided-value, multiplied-value               the answers, read as values
+--     lowest-by-negative .. by-zero                          both ends of the range, computed
+--     C7, C8, C9                                             01's cases
+-- Not here: the signed reading (`Signed`). The definitions are in specs/ (`Products`). Assumes nothing.
 use Prim.Native.Nat.{ℕ, zero, suc, _+_, _-_, _*_, _/_, _%_, _^_, _<_, _≤_}
-use mathlib.Core.Path.{_≡_, refl, sym, ap, _∙_, subst}
+use mathlib.Core.Path.{_≡_, refl, sym, ap, _∙_}
 use mathlib.Core.Logic.{_⊎_, inl, inr}
 use mathlib.Core.Bool.{Bool, true, false, cond, not, _&&_}
 use native.Mathlib.Omega.{arith}
-use native.Mathlib.Nat.{mod-lt, div-le-self, div-lt-self, div-one, div-add-mod', mul-le-mul, zero-lt-suc, zero-mul}
+use native.Mathlib.Nat.{mod-lt, div-le-self, div-lt-self, div-add-mod', mul-le-mul, zero-lt-suc, zero-mul}
 use borrow.Author.Tests.{eqb-false}
 use lib.Dec.{eqb}
 use lib.IntN.{ℤ, pos, negsuc, negℤ, natAbs, _+ℤ_, _*ℤ_, negℤ-+ℤ}
@@ -18,7 +22,6 @@ use mir.ValLaws.{toZ-fits, toZ-ofZ}
 use Rattle.word.specs.Words.{joined}
 use Rattle.word.specs.Signed.{signed, bitsOf, within}
 use Rattle.word.specs.Products.{multiplied, quotientOf, divided}
-use Rattle.word.specs.declared.products.Quotient.{Quotient}
 use Rattle.word.specs.declared.products.Quotient.the-variants.{Divided, Overflow}
 use Rattle.word.proofs.Signed.{of-value, one-word}
 
@@ -119,7 +122,7 @@ quotient-value : (z k : ℤ) (q r : ℕ) → SFits w16 k → (k ≡ pos 0 → �
 quotient-value z k q r k-fits other q-fits e =
     let q-is : bitsOf w16 (quotZ z k) ≡ q = cc in
     let r-is : bitsOf w16 (remZ z k) ≡ r = cc in
-    rw (← q-is, ← r-is, of-value w16 _ q-fits, toZ-ofZ w16 _ (remainder-fits w16 z k k-fits other))
+    rw (← q-is, ← r-is, of-value w16 (quotZ z k) q-fits, toZ-ofZ w16 _ (remainder-fits w16 z k k-fits other))
     (record { dividend = again z k; sign = remainder-sign z k; size = remainder-size z k other })
 
 pub divided-value : (b a m q r : ℕ) → m < 2 ^ 16 → divided b a m ≡ Divided q r

@@ -1,21 +1,23 @@
--- Laws of the signed reading, each stated once for every width w, of a number n below 2 ^ bits w.
---     in-range, of-bits, of-value, one-word, sign-bit    the range, bits and value inverse, one word for a value, the sign bit
---     ends                                               the range by its two ends, -2 ^ hbits w and 2 ^ hbits w - 1
---     complement                                         -1 less the value of the complemented bits is the value of the bits
---     negative, not-negative, low-half                   the bits of a value by its sign; those of a word's value at 32 bits
--- The definitions are in specs/ (`Signed`). Assumes nothing.
-use Prim.Native.Nat.{ℕ, zero, suc, _+_, _-_, _*_, _%_, _^_, _<_, _≤_}
+-- Laws of the signed reading, each stated once for every width. In order:
+--     in-range, of-bits, of-value, one-word, sign-bit     the range; bits and value are inverse; one word for a value; the sign
+--     complement, complement-fits                         -1 less the value of the complemented bits is the value of the bits
+--     too-low, too-high, between, ends                    a value against bounds; the range by its ends, -32,768 and 32,767
+--                                                         for a word
+--     negative, not-negative, some-bit                    a value by its sign; only 0 has no bits
+--     wider, read-wider, low-half                         a word's value at 32 bits
+-- Not here: quotients and products (`Quotients`). The definitions are in specs/ (`Signed`). Assumes nothing.
+use Prim.Native.Nat.{ℕ, zero, suc, _-_, _%_, _^_, _<_, _≤_}
 use mathlib.Core.Path.{_≡_, refl, sym, ap, _∙_, subst}
-use mathlib.Core.Bool.{Bool, true, false, not, cond, _||_}
+use mathlib.Core.Bool.{Bool, true, false, not, _||_}
 use native.Mathlib.Omega.{arith}
 use native.Mathlib.Nat.{zero-add}
 use borrow.Author.Tests.{lt-ltb, le-ltb, ltb-true, ltb-false}
 use lib.Dec.{T, ltb}
-use lib.IntN.{ℤ, pos, negsuc, natAbs, _-ℤ_}
+use lib.IntN.{ℤ, pos, negsuc, _-ℤ_}
 use lib.Signed.{mag, nonNeg, ltZ}
 use lib.Pow.{pow-pos}
 use mir.Syntax.{Width, w16, w32}
-use mir.Val.{Fits, SFits, bits, hbits, toZ, ofZ}
+use mir.Val.{SFits, bits, hbits}
 use mir.ValLaws.{toZ-pos, toZ-neg, toZ-ofZ, ofZ-toZ, toZ-fits, pow-bits}
 use Rattle.word.specs.Signed.{signed, bitsOf, within}
 
@@ -60,7 +62,7 @@ mirrored-twice (pos n) = refl
 mirrored-twice (negsuc n) = refl
 
 mirrored-bits : (w : Width) (z : ℤ) → SFits w z → signed w (2 ^ bits w - 1 - bitsOf w z) ≡ mirrored z
-mirrored-bits w (pos n) h = rw (the-same) (toZ-neg w n (h .sfits))
+mirrored-bits w (pos n) h = rw the-same (toZ-neg w n (h .sfits))
   where
     the-same : 2 ^ bits w - 1 - n ≡ 2 ^ bits w - suc n
     the-same = omega arith
@@ -78,21 +80,29 @@ complement w n h =
 pub complement-fits : (w : Width) (n : ℕ) → n < 2 ^ bits w → SFits w (negsuc 0 -ℤ signed w (2 ^ bits w - 1 - n))
 complement-fits w n h = rw (complement w n h) (toZ-fits w n (record { fits = h }))
 
--- the range, by its ends
-below-end : (w : Width) (n : ℕ) → ltb n (2 ^ hbits w) ≡ not (ltb (2 ^ hbits w - 1) n)
-below-end w n = by (ltb n (2 ^ hbits w)) refl
-  where
-    by : (t : Bool) → ltb n (2 ^ hbits w) ≡ t → ltb n (2 ^ hbits w) ≡ not (ltb (2 ^ hbits w - 1) n)
-    by true e = e ∙ sym (ap not (le-ltb (2 ^ hbits w - 1) n (omega (arith, ltb-true n (2 ^ hbits w) e))))
-    by false e = e ∙ sym (ap not (lt-ltb (2 ^ hbits w - 1) n (omega (arith, ltb-false n (2 ^ hbits w) e, pow-pos (hbits w)))))
+-- a value against a bound at an end of the range or past it, and one between two bounds within it
+pub too-low : (w : Width) (z : ℤ) (low : ℕ) → ltZ z (negsuc low) ≡ true → 2 ^ hbits w ≤ suc low → within w z ≡ false
+too-low w (pos n) low below end = absurd (subst T (sym below) tt)
+too-low w (negsuc n) low below end = le-ltb n (2 ^ hbits w) (omega (arith, ltb-true low n below))
 
-or-false : (t : Bool) → (t || false) ≡ t
-or-false true = refl
-or-false false = refl
+pub too-high : (w : Width) (z : ℤ) (high : ℕ) → ltZ (pos high) z ≡ true → 2 ^ hbits w ≤ suc high → within w z ≡ false
+too-high w (pos n) high above end = le-ltb n (2 ^ hbits w) (omega (arith, ltb-true high n above))
+too-high w (negsuc n) high above end = absurd (subst T (sym above) tt)
+
+pub between : (w : Width) (z : ℤ) (low high : ℕ)
+    → ltZ z (negsuc low) ≡ false → ltZ (pos high) z ≡ false → low < 2 ^ hbits w → high < 2 ^ hbits w → within w z ≡ true
+between w (pos n) low high below above l h = lt-ltb n (2 ^ hbits w) (omega (arith, ltb-false high n above))
+between w (negsuc n) low high below above l h = lt-ltb n (2 ^ hbits w) (omega (arith, ltb-false low n below))
 
 pub ends : (w : Width) (z : ℤ) → within w z ≡ not (ltZ z (negsuc (2 ^ hbits w - 1)) || ltZ (pos (2 ^ hbits w - 1)) z)
-ends w (pos n) = below-end w n
-ends w (negsuc n) = rw or-false (below-end w n)
+ends w z = by (ltZ z (negsuc (2 ^ hbits w - 1))) refl (ltZ (pos (2 ^ hbits w - 1)) z) refl
+  where
+    by : (t : Bool) → ltZ z (negsuc (2 ^ hbits w - 1)) ≡ t → (u : Bool) → ltZ (pos (2 ^ hbits w - 1)) z ≡ u
+        → within w z ≡ not (t || u)
+    by true below u above = too-low w z _ below (omega arith)
+    by false below true above = too-high w z _ above (omega arith)
+    by false below false above =
+        between w z _ _ below above (omega (arith, pow-pos (hbits w))) (omega (arith, pow-pos (hbits w)))
 
 -- a value by its sign
 pub negative : (z : ℤ) → ltZ z (pos 0) ≡ true → z ≡ negsuc (mag z)

@@ -1,16 +1,22 @@
+-- The machine reads a value back from its bits: `z-read`, `k-read`, `q-read` and `r-read` say that it reads the value.
 -- Assumes nothing.
-use mathlib.Core.Path.{_≡_, ap, _∙_}
+use mathlib.Core.Path.{_≡_, _∙_}
+use mathlib.Core.Bool.{true}
+use native.Mathlib.Omega.{arith}
+use lib.IntN.{ℤ}
 use lib.Signed.{quotZ, remZ, mag-rem}
 use mir.Syntax.{w16, w32}
-use mir.Val.{toZ, ofZ, SFits}
+use mir.Val.{toZ, ofZ}
 use mir.ValLaws.{toZ-ofZ, sfits-le}
 use borrow.Author.Tests.{lt-ltb, ltb-true}
-use mathlib.Core.Bool.{true}
 use Rattle.word.specs.Signed.{within}
-use Rattle.word.proofs.Signed.{ends, some-bit, wider, read-wider}
+use Rattle.word.proofs.Signed.{too-low, too-high, between, some-bit, wider, read-wider}
 use Rattle.word.proofs.Quotients.{remainder-fits}
 use Rattle.word.proofs.products.division.Statement.{statement}
 use Rattle.word.proofs.products.division.Tie as tie
+
+abbrev quotient : tie.Start → ℤ
+quotient c = quotZ (c .args .z) (c .args .k)
 
 cast-d : tie.Need-cast-d
 cast-d c = rw (toZ-ofZ w16 _ (c .fits .k)) (wider _ (c .fits .k))
@@ -28,7 +34,7 @@ div-q c =
 
 q-read : (c : tie.Start)
     → toZ w32 (ofZ w32 (quotZ (toZ w32 (ofZ w32 (c .args .z))) (toZ w32 (ofZ w32 (toZ w16 (ofZ w16 (c .args .k)))))))
-    ≡ quotZ (c .args .z) (c .args .k)
+    ≡ quotient c
 q-read c = toZ-ofZ w32 _ (div-q c .1) ∙ rw (z-read c, k-read c)
 
 r-read : (c : tie.Start)
@@ -36,21 +42,17 @@ r-read : (c : tie.Start)
     ≡ remZ (c .args .z) (c .args .k)
 r-read c = rw (z-read c, k-read c) (toZ-ofZ w32 _ (sfits-le (mag-rem (c .args .z) (c .args .k)) (c .fits .z)))
 
-
 returns : tie.Need-returns
-returns c = rw (ends w16 (quotZ (c .before .args .z) (c .before .args .k)), rw (q-read (c .before)) at (c .if1 .taken))
+returns c = rw (too-low w16 (quotient (c .before)) _ (rw (q-read (c .before)) at (c .if1 .taken)) (omega arith))
 
 returns-2 : tie.Need-returns-2
 returns-2 c =
-    rw (ends w16 (quotZ (c .before .before .args .z) (c .before .before .args .k)),
-    rw (q-read (c .before .before)) at (c .before .if1 .left),
-    rw (q-read (c .before .before)) at (c .if2 .taken))
+    let start = c .before .before in rw (too-high w16 (quotient start) _ (rw (q-read start) at (c .if2 .taken)) (omega arith))
 
-inside : (c : tie.Else2) → within w16 (quotZ (c .before .before .args .z) (c .before .before .args .k)) ≡ true
+inside : (c : tie.Else2) → within w16 (quotient (c .before .before)) ≡ true
 inside c =
-    rw (ends w16 (quotZ (c .before .before .args .z) (c .before .before .args .k)),
-    rw (q-read (c .before .before)) at (c .before .if1 .left),
-    rw (q-read (c .before .before)) at (c .if2 .left))
+    let start = c .before .before in
+    between w16 (quotient start) _ _ (rw (q-read start) at (c .before .if1 .left)) (rw (q-read start) at (c .if2 .left)) (omega arith) (omega arith)
 
 word-of-requires : tie.Need-word-of-requires
 word-of-requires c κs = rw (q-read (c .before .before)) (inside c)

@@ -1,5 +1,4 @@
--- Assumes nothing.
-use Prim.Native.Nat.{ℕ, _/_, _%_}
+-- The product of two words' values fits 32 bits (`product-fits`). Assumes nothing.
 use mathlib.Core.Path.{_≡_, ap, _∙_}
 use lib.IntN.{_*ℤ_}
 use mir.Syntax.{w16, w32}
@@ -50,8 +49,12 @@ bits : (c : tie.After-double-bits)
 bits c =
     c .double-bits .ensures
     ∙ ap (bitsOf w32) (toZ-ofZ w32 _ (mul-double-bits (c .before)))
-    ∙ rw (read-wider _ (x-fits (c .before .before)), read-wider _ (y-fits (c .before)),
-      c .before .before .word-value .ensures, c .before .word-value2 .ensures)
+    ∙ rw (
+      read-wider _ (x-fits (c .before .before)),
+      read-wider _ (y-fits (c .before)),
+      c .before .before .word-value .ensures,
+      c .before .word-value2 .ensures,
+    )
 
 returns : tie.Need-returns
 unfolding multiplied

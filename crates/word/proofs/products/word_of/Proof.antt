@@ -1,4 +1,4 @@
--- Assumes nothing.
+-- The low half of the bits (`low-half`). Assumes nothing.
 use Prim.Native.Nat.{ℕ, _%_}
 use mathlib.Core.Path.{ap, _∙_}
 use mir.Syntax.{w32}

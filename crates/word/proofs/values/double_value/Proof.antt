@@ -1,3 +1,4 @@
+-- With the sign bit set the value is -1 less that of the complement (`complement`). Assumes nothing.
 use mathlib.Core.Path.{_∙_}
 use borrow.Author.Needs.{needs}
 use mir.Syntax.{w32}
