@@ -149,50 +149,50 @@ multiplied-value a m a-fits m-fits =
 -- ---- the ends of the range, computed
 
 -- 32,768 by -1 and -32,768 by 1: the quotient -32,768 is legal, as 32,767 is
-lowest-by-negative : divided 0 0o100000 0o177777 ≡ Divided 0o100000 0
+pub lowest-by-negative : divided 0 0o100000 0o177777 ≡ Divided 0o100000 0
 unfolding divided
 lowest-by-negative = refl
 
-lowest-by-positive : divided 0o177777 0o100000 1 ≡ Divided 0o100000 0
+pub lowest-by-positive : divided 0o177777 0o100000 1 ≡ Divided 0o100000 0
 unfolding divided
 lowest-by-positive = refl
 
-highest : divided 0 0o77777 1 ≡ Divided 0o77777 0
+pub highest : divided 0 0o77777 1 ≡ Divided 0o77777 0
 unfolding divided
 highest = refl
 
 -- -32,768 by -1 is 32,768, and -32,769 by 1 and 32,769 by -1 are -32,769
-above-highest : divided 0o177777 0o100000 0o177777 ≡ Overflow
+pub above-highest : divided 0o177777 0o100000 0o177777 ≡ Overflow
 unfolding divided
 above-highest = refl
 
-below-lowest : divided 0o177777 0o77777 1 ≡ Overflow
+pub below-lowest : divided 0o177777 0o77777 1 ≡ Overflow
 unfolding divided
 below-lowest = refl
 
-below-lowest-by-negative : divided 0 0o100001 0o177777 ≡ Overflow
+pub below-lowest-by-negative : divided 0 0o100001 0o177777 ≡ Overflow
 unfolding divided
 below-lowest-by-negative = refl
 
 -- -2,147,483,648 by -1
-lowest-double : divided 0o100000 0 0o177777 ≡ Overflow
+pub lowest-double : divided 0o100000 0 0o177777 ≡ Overflow
 unfolding divided
 lowest-double = refl
 
-by-zero : (b a : ℕ) → divided b a 0 ≡ Overflow
+pub by-zero : (b a : ℕ) → divided b a 0 ≡ Overflow
 unfolding divided
 by-zero b a = refl
 
 -- ---- 01's cases
 
-C7 : multiplied 0o100000 0o100000 ≡ record { b = 0o40000; a = 0 }
+pub C7 : multiplied 0o100000 0o100000 ≡ record { b = 0o40000; a = 0 }
 unfolding multiplied
 C7 = refl
 
-C8 : divided 0o177777 0o177771 2 ≡ Divided 0o177775 0o177777
+pub C8 : divided 0o177777 0o177771 2 ≡ Divided 0o177775 0o177777
 unfolding divided
 C8 = refl
 
-C9 : divided 0 0o100000 1 ≡ Overflow
+pub C9 : divided 0 0o100000 1 ≡ Overflow
 unfolding divided
 C9 = refl
