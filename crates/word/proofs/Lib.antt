@@ -2,7 +2,16 @@
 --     Tests       a test of two numbers, taken apart
 --     Weights     what a bit weighs
 --     Carries     the carries into and out of bit 15 tell the overflow
+--     Signed      the signed reading, at any width
+--     Quotients   the laws of MPY and DIV
+--     Places      one place of a long shift after others
+--     CasesLong   cases of 01 and the manual by computation
+--     Tight       each promise fixes its result
 pub mod Tests
 pub mod Weights
 pub mod Carries
+pub mod Signed
+pub mod Quotients
+pub mod Places
+pub mod CasesLong
 pub mod Tight

@@ -2,7 +2,7 @@
 -- with the dividend's sign in B"; "with divisor 0 or a quotient outside -32,768 to 32,767" the overflow answer. The laws of
 -- the quotient (sign, product and remainder, both ends) are in the facade's proofs (`Quotients`). Assumes nothing.
 use Prim.Native.Nat.{ℕ, _/_, _%_}
-use mathlib.Core.Bool.{Bool, cond, not, _&&_}
+use mathlib.Core.Bool.{cond, not, _&&_}
 use lib.Dec.{eqb}
 use lib.IntN.{ℤ, _*ℤ_}
 use lib.Signed.{quotZ, remZ}

@@ -10,7 +10,7 @@ pub fn word_value(w: u16) -> i16
     if w < 0o100000 {
         w as i16
     } else {
-        -((0o177777 - w) as i16) - 1
+        -1 - (0o177777 - w) as i16
     }
 }
 
@@ -20,7 +20,7 @@ pub fn double_value(d: u32) -> i32
     if d < 0x8000_0000 {
         d as i32
     } else {
-        -((0xffff_ffff - d) as i32) - 1
+        -1 - (0xffff_ffff - d) as i32
     }
 }
 
@@ -28,7 +28,7 @@ pub fn double_bits(z: i32) -> u32
     ensures { λ r. ⌜ r ≡ bitsOf w32 z ⌝ }
 {
     if z < 0 {
-        0xffff_ffff - (-(z + 1)) as u32
+        0xffff_ffff - (-1 - z) as u32
     } else {
         z as u32
     }
