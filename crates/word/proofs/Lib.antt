@@ -1,1 +1,2 @@
+pub mod CasesLong
 pub mod Places

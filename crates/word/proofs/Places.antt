@@ -1,13 +1,13 @@
--- The places of a long shift: to go i + j places is to go i and then j, of the double word (`moved-add`) and of O
--- (`overflowed-add`); to go none changes nothing (`moved-none`, `overflowed-none`). Below them what each kind needs: LSL and
--- ASL `mod-mul`, ASR `shr-shr-Z`, the rotates `turned`, O `digits`. Assumes nothing.
+-- The places of a long shift. First what each kind needs: LSL and ASL `left`, ASR `shr-shr-Z`, the rotates `around-left` and
+-- `around-right`, O `lost`. Then the laws: to go i + j places is to go i and then j, of the double word (`moved-add`) and of
+-- O (`overflowed-add`), and to go none changes nothing (`moved-none`, `overflowed-none`). Assumes nothing.
 use mathlib.Core.Path.{_≡_, refl, sym, ap, _∙_, subst⁻¹}
 use mathlib.Core.Bool.{Bool, true, false, cond, not, _||_, _&&_, or-false}
 use Prim.Native.Nat.{ℕ, zero, suc, _+_, _-_, _*_, _/_, _%_, _^_, _≤_, _<_}
 use native.Mathlib.Nat.{zero-mul, one-mul, zero-div, zero-mod, div-add-mod', mul-add-mod-self-right, div-div-eq-div-mul, mul-div-mul-right, mod-lt, div-one}
 use native.Mathlib.Omega.{arith}
 use lib.Arith.{digits-div, digits-mod, digits-lt, mul-pred}
-use lib.Dec.{T, eqb, eqb→eq, eqb-refl}
+use lib.Dec.{eqb}
 use lib.IntN.{ℤ, pos, negsuc}
 use lib.Pow.{pow-pos, pow-add, shr-shr, shr-lt, field}
 use lib.Signed.{shrZ, mag-shr}
@@ -48,7 +48,7 @@ shr-shr-Z : (z : ℤ) (m k : ℕ) → shrZ (shrZ z m) k ≡ shrZ z (m * k)
 shr-shr-Z (pos n) m k = ap pos (div-div-eq-div-mul n m k)
 shr-shr-Z (negsuc n) m k = ap negsuc (div-div-eq-div-mul n m k)
 
--- ---- around: the low part goes up past H, the high part comes down
+-- ---- around: the part below L goes up by H, the part above comes down
 
 abbrev turn : ℕ → ℕ → ℕ → ℕ
 turn H L d = d % L * H + d / L
@@ -83,17 +83,17 @@ module _ (A : ℕ) {B C : ℕ} (hB : 0 < B) (hC : 0 < C) (d : ℕ) where
   around-right =
       let e : turn (A * B) C d ≡ (z * A + x) * B + y = omega (arith, turn-low) in
       let f : turn (C * A) B (turn (A * B) C d) ≡ y * (C * A) + (z * A + x)
-            = ap (turn (C * A) B) e ∙ turned (C * A) (z * A + x) (mod-lt (d / C) hB) in
+      = ap (turn (C * A) B) e ∙ turned (C * A) (z * A + x) (mod-lt (d / C) hB) in
       omega (arith, turn-high, f)
 
   around-left : x < A → turn (A * B) C d ≡ turn B (C * A) (turn A (B * C) d)
   around-left h =
       let e : turn A (B * C) d ≡ y * (C * A) + (z * A + x) = omega (arith, turn-high) in
       let f : turn B (C * A) (turn A (B * C) d) ≡ (z * A + x) * B + y
-            = ap (turn B (C * A)) e ∙ turned B y (digits-lt (mod-lt d hC) h) in
+      = ap (turn B (C * A)) e ∙ turned B y (digits-lt (mod-lt d hC) h) in
       omega (arith, turn-low, f)
 
--- ---- O: the lost bits, with B of them split off below
+-- ---- O: the lost bits as two digits
 
 -- two numbers are equal where their digits are
 digits : (a b B : ℕ) → eqb a b ≡ (eqb (a / B) (b / B) && eqb (a % B) (b % B))
@@ -104,8 +104,9 @@ digits a b B = at (eqb (a / B) (b / B)) (eqb (a % B) (b % B)) refl refl
     at true false hq hr = ne-eqb a b (λ e. eqb-false _ _ hr (ap (λ (t : ℕ). t % B) e))
     at true true hq hr = eq-eqb a b (cc (div-add-mod' a B, div-add-mod' b B, eqb-true (a / B) (b / B) hq, eqb-true (a % B) (b % B) hr))
 
--- the digits of as many copies of a bit
-copies : (s : ℕ) {A B : ℕ} → s < 2 → 0 < A → 0 < B → (s * (A * B - 1) / B ≡ s * (A - 1)) × (s * (A * B - 1) % B ≡ s * (B - 1))
+-- the digits of all ones, or of 0
+copies : (s : ℕ) {A B : ℕ} → s < 2 → 0 < A → 0 < B
+    → (s * (A * B - 1) / B ≡ s * (A - 1)) × (s * (A * B - 1) % B ≡ s * (B - 1))
 copies zero h hA hB = (simp (zero-mul, zero-div), simp (zero-mul, zero-mod))
 copies (suc zero) {A} {B} h hA hB =
     let l : B - 1 < B = omega arith in
@@ -136,7 +137,8 @@ asl-low : (i d : ℕ) → moved Asl i d % 2 ^ 31 ≡ d * 2 ^ i % 2 ^ 31
 unfolding moved
 asl-low i d = omega arith
 
-asr : (w : Width) (n i j : ℕ) → Fits w n → ofZ w (shrZ (toZ w n) (2 ^ (i + j))) ≡ ofZ w (shrZ (toZ w (ofZ w (shrZ (toZ w n) (2 ^ i)))) (2 ^ j))
+asr : (w : Width) (n i j : ℕ) → Fits w n
+    → ofZ w (shrZ (toZ w n) (2 ^ (i + j))) ≡ ofZ w (shrZ (toZ w (ofZ w (shrZ (toZ w n) (2 ^ i)))) (2 ^ j))
 asr w n i j f =
     let g : SFits w (shrZ (toZ w n) (2 ^ i)) = sfits-le (mag-shr (toZ w n) (2 ^ i)) (toZ-fits w n f) in
     ap (ofZ w) (ap (shrZ (toZ w n)) (pow-add 2 i j) ∙ sym (shr-shr-Z (toZ w n) (2 ^ i) (2 ^ j))
@@ -153,9 +155,9 @@ moved-none Rrr d h = omega arith
 
 pub moved-add : (kind : LongShift) (i j d : ℕ) → i + j ≤ 32 → d < 2 ^ 32 → moved kind (i + j) d ≡ moved kind j (moved kind i d)
 unfolding moved
-moved-add Asl i j d l h = 
+moved-add Asl i j d l h =
     let e : moved Asl i d * 2 ^ j % 2 ^ 31 ≡ d * 2 ^ (i + j) % 2 ^ 31
-          = sym (mod-mul (moved Asl i d) (2 ^ j) (2 ^ 31)) ∙ ap (λ (t : ℕ). t * 2 ^ j % 2 ^ 31) (asl-low i d) ∙ sym (left (2 ^ 31) d i j) in
+    = sym (mod-mul (moved Asl i d) (2 ^ j) (2 ^ 31)) ∙ ap (λ (t : ℕ). t * 2 ^ j % 2 ^ 31) (asl-low i d) ∙ sym (left (2 ^ 31) d i j) in
     omega (arith, asl-high i d, e)
 moved-add Lsl i j d l h = left (2 ^ 32) d i j
 moved-add Rrl i j d l h =

@@ -24,7 +24,7 @@ fn places_of(n: u16) -> u16
     if n % 16 == 0 { 16 } else { n % 16 }
 }
 
-// One place of the double word.
+// The double word after one place.
 fn place(kind: LongShift, d: u32) -> u32
     ensures { λ r. ⌜ r ≡ moved kind 1 d ⌝ }
 {
@@ -38,8 +38,8 @@ fn place(kind: LongShift, d: u32) -> u32
     }
 }
 
-// O before the first place.
-fn first(kind: LongShift, o: bool) -> bool
+// O before the first place: ASL and ASR clear it.
+fn o_before(kind: LongShift, o: bool) -> bool
     ensures { λ r. ⌜ r ≡ overflowed kind 0 0 o ⌝ }
 {
     match kind {
@@ -49,8 +49,8 @@ fn first(kind: LongShift, o: bool) -> bool
     }
 }
 
-// O after one place more: ASL loses bit 30.
-fn then(kind: LongShift, d: u32, o: bool) -> bool
+// O after one place more of d: ASL loses bit 30.
+fn o_after(kind: LongShift, d: u32, o: bool) -> bool
     ensures { λ r. ⌜ r ≡ (o || overflowed kind 1 d false) ⌝ }
 {
     match kind {
@@ -64,10 +64,10 @@ pub fn long_shift(kind: LongShift, n: u16, b: u16, a: u16, o: bool) -> Long
 {
     let count = places_of(n);
     let mut d = crate::values::join(b, a);
-    let mut over = first(kind, o);
+    let mut over = o_before(kind, o);
     let mut i: u16 = 0;
     while i < count {
-        over = then(kind, d, over);
+        over = o_after(kind, d, over);
         d = place(kind, d);
         i += 1;
     }

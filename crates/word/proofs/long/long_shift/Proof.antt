@@ -1,5 +1,7 @@
+-- `word::long::long_shift` meets its contract. After i turns the double word is `moved kind i` of the joined one, and O
+-- `overflowed kind i` of it; a turn more is `moved-add` and `overflowed-add` of `Places` at one place. Assumes nothing.
 use mathlib.Core.Path.{_≡_, sym, _∙_}
-use Prim.Native.Nat.{_-_, _^_, _≤_, _<_}
+use Prim.Native.Nat.{ℕ, _-_, _^_, _≤_, _<_}
 use native.Mathlib.Omega.{arith}
 use borrow.Author.Needs.{needs}
 use Rattle.word.specs.Long.{places, moved, overflowed}
@@ -7,16 +9,10 @@ use Rattle.word.specs.declared.long.LongShift.{LongShift}
 use Rattle.word.proofs.Places.{places-le, moved-none, moved-add, overflowed-none, overflowed-add}
 use Rattle.word.proofs.long.long_shift.Statement.{statement}
 use Rattle.word.proofs.long.long_shift.Tie as tie
-use Rattle.word.proofs.long.long_shift.Reads as reads
-use Rattle.word.proofs.long.long_shift.Lts as lts
-use Rattle.word.proofs.long.first.Reads as first-reads
-use Rattle.word.proofs.long.place.Reads as place-reads
-use Rattle.word.proofs.long.places_of.Reads as places-of-reads
-use Rattle.word.proofs.long.then.Reads as then-reads
-use Rattle.word.proofs.values.join.Reads as join-reads
 
 abbrev Inv-loop : tie.InvT-loop
-Inv-loop kind n b a o count d₀ over₀ i₀ d over i = (i ≤ count) × (count ≤ 16) × (d ≡ moved kind i d₀) × (over ≡ overflowed kind i d₀ o) × (d < 2 ^ 32)
+Inv-loop kind n b a o count d₀ over₀ i₀ d over i =
+    (i ≤ count) × (count ≤ 16) × (d ≡ moved kind i d₀) × (over ≡ overflowed kind i d₀ o) × (d < 2 ^ 32)
 
 abbrev μ-loop : tie.MeasureT-loop
 μ-loop kind n b a o count d₀ over₀ i₀ d over i = count - i
@@ -27,20 +23,22 @@ places-of-requires c κs = search needs
 join-requires : tie.Need-join-requires Inv-loop μ-loop
 join-requires c κs = search needs
 
-first-requires : tie.Need-first-requires Inv-loop μ-loop
-first-requires c κs = search needs
+o-before-requires : tie.Need-o-before-requires Inv-loop μ-loop
+o-before-requires c κs = search needs
 
 loop-holds : tie.Need-loop-holds Inv-loop μ-loop
 loop-holds c =
     let h : c .before .join .result < 2 ^ 32 = omega arith in
-    (omega arith
-    , rw (c .before .before .places-of .ensures) (places-le (c .before .before .before .args .n))
-    , sym (moved-none (c .before .before .before .args .kind) _ h)
-    , c .first .ensures ∙ sym (overflowed-none (c .before .before .before .args .kind) (c .before .join .result) (c .before .before .before .args .o))
-    , h)
+    let kind : LongShift = c .before .before .before .args .kind in (
+      omega arith,
+      rw (c .before .before .places-of .ensures) (places-le (c .before .before .before .args .n)),
+      sym (moved-none kind _ h),
+      c .o-before .ensures ∙ sym (overflowed-none kind (c .before .join .result) (c .before .before .before .args .o)),
+      h,
+    )
 
-then-requires : tie.Need-then-requires Inv-loop μ-loop
-then-requires c κs = search needs
+o-after-requires : tie.Need-o-after-requires Inv-loop μ-loop
+o-after-requires c κs = search needs
 
 place-requires : tie.Need-place-requires Inv-loop μ-loop
 place-requires c κs = search needs
@@ -55,11 +53,14 @@ loop-again : tie.Need-loop-again Inv-loop μ-loop
 loop-again c =
     let h : c .before .before .before .before .before .join .result < 2 ^ 32 = omega arith in
     let kind : LongShift = c .before .before .before .before .before .before .before .args .kind in
-    (omega arith
-    , omega arith
-    , rw (c .place .ensures, c .before .before .before .loop .inv .2) (sym (moved-add kind (c .before .before .before .loop .i) 1 _ (omega arith) h))
-    , rw (c .before .then .ensures, c .before .before .before .loop .inv .3, c .before .before .before .loop .inv .2) (sym (overflowed-add kind (c .before .before .before .loop .i) 1 _ _ (omega arith) h))
-    , omega arith)
+    let i : ℕ = c .before .before .before .loop .i in (
+      omega arith,
+      omega arith,
+      rw (c .place .ensures, c .before .before .before .loop .inv .2) (sym (moved-add kind i 1 _ (omega arith) h)),
+      rw (c .before .o-after .ensures, c .before .before .before .loop .inv .3, c .before .before .before .loop .inv .2)
+          (sym (overflowed-add kind i 1 _ _ (omega arith) h)),
+      omega arith,
+    )
 
 cast-t12 : tie.Need-cast-t12 Inv-loop μ-loop
 cast-t12 c = omega arith
@@ -69,7 +70,8 @@ cast-t14 c = omega arith
 
 returns : tie.Need-returns Inv-loop μ-loop
 returns c =
-    let e : c .before .loop .i ≡ places (c .before .before .before .before .before .args .n) = omega (arith, c .before .before .before .before .places-of .ensures) in
+    let e : c .before .loop .i ≡ places (c .before .before .before .before .before .args .n)
+    = omega (arith, c .before .before .before .before .places-of .ensures) in
     rw (c .before .loop .inv .2, c .before .loop .inv .3, e, c .before .before .before .join .ensures)
 
 pub long-shift-spec : {M : Type 1} → statement M
@@ -80,9 +82,9 @@ long-shift-spec =
     μ-loop
     places-of-requires
     join-requires
-    first-requires
+    o-before-requires
     loop-holds
-    then-requires
+    o-after-requires
     place-requires
     add-i
     loop-less

@@ -1,3 +1,4 @@
+-- `word::long::place` meets its contract: arithmetic, and for ASR the two signs (`asr-one`). Assumes nothing.
 use mathlib.Core.Path.{_≡_, refl}
 use mathlib.Core.Bool.{Bool, true, false}
 use Prim.Native.Nat.{ℕ, suc, _+_, _-_, _*_, _/_, _^_, _<_}
@@ -13,8 +14,6 @@ use Rattle.word.specs.Signed.{signed, bitsOf}
 use Rattle.word.specs.Long.{moved}
 use Rattle.word.proofs.long.place.Statement.{statement}
 use Rattle.word.proofs.long.place.Tie as tie
-use Rattle.word.proofs.long.place.Reads as reads
-use Rattle.word.proofs.long.place.Lts as lts
 
 enum-told : tie.Need-enum-told
 enum-told c = search needs
@@ -64,11 +63,10 @@ mul-result-6 c = search needs
 add-result-4 : tie.Need-add-result-4
 add-result-4 c = search needs
 
--- by the sign
-asr-place : (d : ℕ) → d < 2 ^ 32 → d / 2 ^ 31 * 2 ^ 31 + d / 2 ≡ bitsOf w32 (shrZ (signed w32 d) 2)
-asr-place d h = at (ltb d (2 ^ 31)) refl
+asr-one : (d : ℕ) → d < 2 ^ 32 → bitsOf w32 (shrZ (signed w32 d) 2) ≡ d / 2 ^ 31 * 2 ^ 31 + d / 2
+asr-one d h = at (ltb d (2 ^ 31)) refl
   where
-    at : (b : Bool) → ltb d (2 ^ 31) ≡ b → d / 2 ^ 31 * 2 ^ 31 + d / 2 ≡ bitsOf w32 (shrZ (sel b (pos d) (negsuc (2 ^ 32 - suc d))) 2)
+    at : (b : Bool) → ltb d (2 ^ 31) ≡ b → bitsOf w32 (shrZ (sel b (pos d) (negsuc (2 ^ 32 - suc d))) 2) ≡ d / 2 ^ 31 * 2 ^ 31 + d / 2
     at true e = omega (arith, ltb-true d (2 ^ 31) e)
     at false e = omega (arith, ltb-false d (2 ^ 31) e)
 
@@ -86,7 +84,7 @@ returns-3 c = rw (c .enum-told3 .given .1) (omega arith)
 
 returns-4 : tie.Need-returns-4
 unfolding moved
-returns-4 c = rw (c .enum-told4 .given .1) (asr-place (c .before .before .args .d) (omega arith))
+returns-4 c = rw (c .enum-told4 .given .1) (omega (arith, asr-one (c .before .before .args .d) (omega arith)))
 
 returns-5 : tie.Need-returns-5
 unfolding moved

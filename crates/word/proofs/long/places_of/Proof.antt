@@ -1,3 +1,4 @@
+-- `word::long::places_of` meets its contract. Assumes nothing.
 use borrow.Author.Tests.{eq-eqb, ne-eqb}
 use Rattle.word.proofs.long.places_of.Statement.{statement}
 use Rattle.word.proofs.long.places_of.Tie as tie

@@ -1,3 +1,4 @@
+-- `word::long::o_before` meets its contract. Assumes nothing.
 use mathlib.Core.Path.{_≡_, refl}
 use mathlib.Core.Bool.{Bool}
 use mathlib.Core.List.{[], _∷_}
@@ -8,10 +9,8 @@ use Rattle.word.specs.Long.{loses, overflowed}
 use Rattle.word.specs.declared.long.LongShift.{LongShift}
 use Rattle.word.specs.declared.long.LongShift.the-variants.{Asl, Lsl, Rrl, Asr, Lsr, Rrr}
 use Rattle.word.proofs.long.LongShift.{the-type}
-use Rattle.word.proofs.long.first.Statement.{statement}
-use Rattle.word.proofs.long.first.Tie as tie
-use Rattle.word.proofs.long.first.Reads as reads
-use Rattle.word.proofs.long.first.Lts as lts
+use Rattle.word.proofs.long.o_before.Statement.{statement}
+use Rattle.word.proofs.long.o_before.Tie as tie
 
 enum-told : tie.Need-enum-told
 enum-told c = search needs
@@ -37,5 +36,5 @@ kept Rrr o k = refl
 returns-3 : tie.Need-returns-3
 returns-3 c = kept (c .before .args .kind) (c .before .args .o) (c .match .keys3)
 
-pub first-spec : {M : Type 1} → statement M
-first-spec = tie.close (tie.spec enum-told enum-told-2 returns returns-2 returns-3)
+pub o-before-spec : {M : Type 1} → statement M
+o-before-spec = tie.close (tie.spec enum-told enum-told-2 returns returns-2 returns-3)
