@@ -1,10 +1,10 @@
 -- 01, Long shifts: "of B,A by n from 1 to 16 (low four bits, 0 means 16) .. ASL keeps the sign; O is set when a lost bit
 -- differs from it, otherwise cleared. ASR clears O." The other four keep O. B is the high word. Assumes nothing.
-use Prim.Native.Nat.{ℕ, zero, suc, _+_, _-_, _*_, _/_, _%_, _^_}
-use mathlib.Core.Bool.{Bool, false, cond, not, Bool·beq, _||_}
+use Prim.Native.Nat.{ℕ, _+_, _-_, _*_, _/_, _%_, _^_}
+use mathlib.Core.Bool.{Bool, false, cond, not}
 use lib.Dec.{eqb}
 use lib.Signed.{shrZ}
-use Rattle.word.specs.Words.{bit, joined}
+use Rattle.word.specs.Words.{joined}
 use mir.Syntax.{w32}
 use Rattle.word.specs.Signed.{signed, bitsOf}
 use Rattle.word.specs.declared.long.Long.{Long}
@@ -18,15 +18,14 @@ places n = cond (eqb (n % 16) 0) 16 (n % 16)
 unfoldable pub moved : LongShift → ℕ → ℕ → ℕ
 moved Asl n d = d / 2 ^ 31 * 2 ^ 31 + d * 2 ^ n % 2 ^ 31
 moved Lsl n d = d * 2 ^ n % 2 ^ 32
-moved Rrl n d = d * 2 ^ n % 2 ^ 32 + d * 2 ^ n / 2 ^ 32
+moved Rrl n d = d % 2 ^ (32 - n) * 2 ^ n + d / 2 ^ (32 - n)
 moved Asr n d = bitsOf w32 (shrZ (signed w32 d) (2 ^ n))
 moved Lsr n d = d / 2 ^ n
-moved Rrr n d = d / 2 ^ n + d % 2 ^ n * 2 ^ (32 - n)
+moved Rrr n d = d % 2 ^ n * 2 ^ (32 - n) + d / 2 ^ n
 
--- ASL loses bits 30 down to 31 - n: does one of them differ from the sign?
+-- ASL loses n bits, 30 down to 31 - n: are they other than n copies of the sign?
 unfoldable pub loses : ℕ → ℕ → Bool
-loses zero d = false
-loses (suc n) d = loses n d || not (Bool·beq (bit (30 - n) d) (bit 31 d))
+loses n d = not (eqb (d % 2 ^ 31 / 2 ^ (31 - n)) (d / 2 ^ 31 * (2 ^ n - 1)))
 
 abbrev pub overflowed : LongShift → ℕ → ℕ → Bool → Bool
 overflowed Asl n d o = loses n d
