@@ -5,7 +5,7 @@
 --     Signed      the signed reading, at any width
 --     Quotients   the laws of MPY and DIV
 --     Places      one place of a long shift after others
---     CasesLong   cases of 01 and the manual by computation
+--     Cases       01's cases and the ends of the ranges, by computation
 --     Tight       each promise fixes its result
 pub mod Tests
 pub mod Weights
@@ -13,5 +13,5 @@ pub mod Carries
 pub mod Signed
 pub mod Quotients
 pub mod Places
-pub mod CasesLong
+pub mod Cases
 pub mod Tight

@@ -3,9 +3,8 @@
 --                                                            remainder's sign and size; the quotient's size
 --     product-fits, quotient-fits, remainder-fits            what fits a width
 --     Divides, divided-value, multiplied-value               the answers, read as values
---     lowest-by-negative .. by-zero                          both ends of the range, computed
---     C7, C8, C9                                             01's cases
--- Not here: the signed reading (`Signed`). The definitions are in specs/ (`Products`). Assumes nothing.
+-- Not here: the signed reading (`Signed`); both ends of the range and 01's cases, computed (`Cases`). The definitions are in
+-- specs/ (`Products`). Assumes nothing.
 use Prim.Native.Nat.{ℕ, zero, suc, _+_, _-_, _*_, _/_, _%_, _^_, _<_, _≤_}
 use mathlib.Core.Path.{_≡_, refl, sym, ap, _∙_}
 use mathlib.Core.Logic.{_⊎_, inl, inr}
@@ -145,54 +144,3 @@ unfolding multiplied
 multiplied-value a m a-fits m-fits =
     ap (signed w32) (div-add-mod' (bitsOf w32 (signed w16 a *ℤ signed w16 m)) 0o200000)
     ∙ toZ-ofZ w32 _ (product-fits _ _ (toZ-fits w16 a (record { fits = a-fits })) (toZ-fits w16 m (record { fits = m-fits })))
-
--- ---- the ends of the range, computed
-
--- 32,768 by -1 and -32,768 by 1: the quotient -32,768 is legal, as 32,767 is
-pub lowest-by-negative : divided 0 0o100000 0o177777 ≡ Divided 0o100000 0
-unfolding divided
-lowest-by-negative = refl
-
-pub lowest-by-positive : divided 0o177777 0o100000 1 ≡ Divided 0o100000 0
-unfolding divided
-lowest-by-positive = refl
-
-pub highest : divided 0 0o77777 1 ≡ Divided 0o77777 0
-unfolding divided
-highest = refl
-
--- -32,768 by -1 is 32,768, and -32,769 by 1 and 32,769 by -1 are -32,769
-pub above-highest : divided 0o177777 0o100000 0o177777 ≡ Overflow
-unfolding divided
-above-highest = refl
-
-pub below-lowest : divided 0o177777 0o77777 1 ≡ Overflow
-unfolding divided
-below-lowest = refl
-
-pub below-lowest-by-negative : divided 0 0o100001 0o177777 ≡ Overflow
-unfolding divided
-below-lowest-by-negative = refl
-
--- -2,147,483,648 by -1
-pub lowest-double : divided 0o100000 0 0o177777 ≡ Overflow
-unfolding divided
-lowest-double = refl
-
-pub by-zero : (b a : ℕ) → divided b a 0 ≡ Overflow
-unfolding divided
-by-zero b a = refl
-
--- ---- 01's cases
-
-pub C7 : multiplied 0o100000 0o100000 ≡ record { b = 0o40000; a = 0 }
-unfolding multiplied
-C7 = refl
-
-pub C8 : divided 0o177777 0o177771 2 ≡ Divided 0o177775 0o177777
-unfolding divided
-C8 = refl
-
-pub C9 : divided 0 0o100000 1 ≡ Overflow
-unfolding divided
-C9 = refl

@@ -1,0 +1,106 @@
+-- The numbers of 01's cases that this layer fixes, by computation, in 01's order: C1, C2, C6 to C11, C13. The steps that use
+-- them, with what E, O and the registers keep, are proved over the machine. Then the ends that 01 and the manual name:
+--     exchanged                                  a rotate by 16 exchanges B and A
+--     lowest-by-negative .. below-lowest-by-negative     the quotients -32,768 and 32,767, and those past them
+--     lowest-double, by-zero                     -2,147,483,648 by -1; divisor 0
+-- Assumes nothing.
+use Prim.Native.Nat.{ℕ}
+use mathlib.Core.Path.{_≡_, refl}
+use mathlib.Core.Bool.{Bool, true, false}
+use Rattle.word.specs.Words.{byteOf, withByte}
+use Rattle.word.specs.Sums.{sum, incremented}
+use Rattle.word.specs.Shifts.{unshifted}
+use Rattle.word.specs.Long.{moved, loses, longShifted}
+use Rattle.word.specs.Products.{multiplied, divided}
+use Rattle.word.specs.declared.shifts.ShiftCode.the-variants.{Ela}
+use Rattle.word.specs.declared.long.LongShift.the-variants.{Asl, Rrl, Asr}
+use Rattle.word.specs.declared.products.Quotient.the-variants.{Divided, Overflow}
+
+-- "C1 A 077777, INA: A 100000, O set, E kept": no carry
+pub c1 : incremented 0o077777 ≡ record { word = 0o100000; carry = false; overflow = true }
+unfolding sum
+c1 = refl
+
+-- "C2 A 177777, INA: A 0, E set, O kept": no overflow
+pub c2 : incremented 0o177777 ≡ record { word = 0; carry = true; overflow = false }
+unfolding sum
+c2 = refl
+
+-- "C6 000600 with A 100000, E 0: A kept, E 1": the first shift is ELA, disabled
+pub c6 : unshifted Ela 0o100000 false ≡ record { word = 0o100000; e = true }
+c6 = refl
+
+-- "C7 MPY 100000 by 100000: B 040000, A 0"
+pub c7 : multiplied 0o100000 0o100000 ≡ record { b = 0o040000; a = 0 }
+unfolding multiplied
+c7 = refl
+
+-- "C8 DIV B 177777, A 177771 by 2: A 177775, B 177777"
+pub c8 : divided 0o177777 0o177771 2 ≡ Divided 0o177775 0o177777
+unfolding divided
+c8 = refl
+
+-- "C9 DIV B 0, A 100000 by 1: O 1, A and B kept"
+pub c9 : divided 0 0o100000 1 ≡ Overflow
+unfolding divided
+c9 = refl
+
+-- "C10 100021 with B 040000, A 0: both 0, O 1": ASL by 1
+pub c10 : (o : Bool) → longShifted Asl 1 0o040000 0 o ≡ record { b = 0; a = 0; o = true }
+unfolding moved loses
+c10 o = refl
+
+-- "C11 101020 with B 100000, A 000005: B 177777, A 100000": ASR by 16, whose field is 0
+pub c11 : (o : Bool) → longShifted Asr 0 0o100000 0o000005 o ≡ record { b = 0o177777; a = 0o100000; o = false }
+unfolding moved
+c11 o = refl
+
+-- "C13 SBT, B 000041, A 000001, word 20 holding 123456: word 20 is 123401, B 000042": byte address 000041 is the odd byte of
+-- word 20, the byte stored is the odd one of A, and B rises by one
+pub c13-word : withByte true 0o123456 (byteOf true 0o000001) ≡ 0o123401
+c13-word = refl
+
+pub c13-b : incremented 0o000041 .word ≡ 0o000042
+unfolding sum
+c13-b = refl
+
+-- ---- the ends
+
+pub exchanged : (o : Bool) → longShifted Rrl 0 0o123456 0o000654 o ≡ record { b = 0o000654; a = 0o123456; o = o }
+unfolding moved
+exchanged o = refl
+
+-- 32,768 by -1 and -32,768 by 1: the quotient -32,768 is legal, as 32,767 is
+pub lowest-by-negative : divided 0 0o100000 0o177777 ≡ Divided 0o100000 0
+unfolding divided
+lowest-by-negative = refl
+
+pub lowest-by-positive : divided 0o177777 0o100000 1 ≡ Divided 0o100000 0
+unfolding divided
+lowest-by-positive = refl
+
+pub highest : divided 0 0o077777 1 ≡ Divided 0o077777 0
+unfolding divided
+highest = refl
+
+-- -32,768 by -1 is 32,768, and -32,769 by 1 and 32,769 by -1 are -32,769
+pub above-highest : divided 0o177777 0o100000 0o177777 ≡ Overflow
+unfolding divided
+above-highest = refl
+
+pub below-lowest : divided 0o177777 0o077777 1 ≡ Overflow
+unfolding divided
+below-lowest = refl
+
+pub below-lowest-by-negative : divided 0 0o100001 0o177777 ≡ Overflow
+unfolding divided
+below-lowest-by-negative = refl
+
+-- -2,147,483,648 by -1
+pub lowest-double : divided 0o100000 0 0o177777 ≡ Overflow
+unfolding divided
+lowest-double = refl
+
+pub by-zero : (b a : ℕ) → divided b a 0 ≡ Overflow
+unfolding divided
+by-zero b a = refl
