@@ -2,7 +2,7 @@
 use Prim.Native.Nat.{ℕ, suc, _+_, _-_, _%_, _≤_, _<_}
 use native.Mathlib.Omega.{arith}
 use mathlib.Core.Path.{_≡_, sym, _∙_}
-use mathlib.Core.Bool.{Bool, true, false, not, Bool·beq}
+use mathlib.Core.Bool.{Bool, true, not, Bool·beq}
 use lib.Dec.{ltb, leb}
 use native.Mathlib.Nat.{add-comm}
 use lib.IntN.{_+ℤ_, subℕ, +ℤ-comm}
@@ -10,7 +10,6 @@ use mir.Syntax.{w16}
 use borrow.Author.Tests.{lt-ltb, le-ltb, le-leb, lt-leb}
 use Rattle.word.specs.Signed.{signed, within}
 use Rattle.word.specs.Sums.{sum}
-use Rattle.word.specs.declared.sums.Sum.{Sum}
 use Rattle.word.proofs.Tests.{split}
 
 -- a wrapped sum is below a summand exactly where it carries

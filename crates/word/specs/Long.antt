@@ -1,5 +1,6 @@
 -- 01, Long shifts: "of B,A by n from 1 to 16 (low four bits, 0 means 16) .. ASL keeps the sign; O is set when a lost bit
--- differs from it, otherwise cleared. ASR clears O." The other four keep O. B is the high word. Assumes nothing.
+-- differs from it, otherwise cleared. ASR clears O." The other four keep O. B is the high word. In order: the count, the
+-- double word, O. Not here: that i + j places are i places and then j (`Places` of proofs/). Assumes nothing.
 use Prim.Native.Nat.{ℕ, _+_, _-_, _*_, _/_, _%_, _^_}
 use mathlib.Core.Bool.{Bool, false, cond, not}
 use lib.Dec.{eqb}
@@ -11,10 +12,11 @@ use Rattle.word.specs.declared.long.Long.{Long}
 use Rattle.word.specs.declared.long.LongShift.{LongShift}
 use Rattle.word.specs.declared.long.LongShift.the-variants.{Asl, Lsl, Rrl, Asr, Lsr, Rrr}
 
+-- "low four bits, 0 means 16"
 abbrev pub places : ℕ → ℕ
 places n = cond (eqb (n % 16) 0) 16 (n % 16)
 
--- n places of the joined double word d
+-- n places of the joined double word d; `shrZ` divides by a power of two and rounds down, which keeps the sign
 unfoldable pub moved : LongShift → ℕ → ℕ → ℕ
 moved Asl n d = d / 2 ^ 31 * 2 ^ 31 + d * 2 ^ n % 2 ^ 31
 moved Lsl n d = d * 2 ^ n % 2 ^ 32

@@ -1,6 +1,7 @@
 -- 01: "MPY: signed A times operand, high half in B". "DIV: signed B,A by the operand, quotient toward zero in A, remainder
--- with the dividend's sign in B"; "with divisor 0 or a quotient outside -32,768 to 32,767" the overflow answer. The laws of
--- the quotient (sign, product and remainder, both ends) are in the facade's proofs (`Quotients`). Assumes nothing.
+-- with the dividend's sign in B"; "with divisor 0 or a quotient outside -32,768 to 32,767" the overflow answer. Not here:
+-- O, which the step sets or clears by the answer; the laws of the quotient and the remainder (`Quotients` of proofs/) and both
+-- ends of the range (`Cases`). Assumes nothing.
 use Prim.Native.Nat.{ℕ, _/_, _%_}
 use mathlib.Core.Bool.{cond, not, _&&_}
 use lib.Dec.{eqb}

@@ -7,7 +7,8 @@ use Rattle.word.specs.declared.shifts.Shifted.{Shifted}
 use Rattle.word.specs.declared.shifts.ShiftCode.{ShiftCode}
 use Rattle.word.specs.declared.shifts.ShiftCode.the-variants.{Als, Ars, Ral, Rar, Alr, Era, Ela, Alf}
 
--- ALS and ARS keep bit 15, ARS copies it to bit 14; ALR clears it
+-- The manual, Shift/Rotate: ALS and ARS keep bit 15, and ARS copies it to bit 14; ALR shifts left and clears bit 15. RAL and
+-- RAR rotate by one place and ALF by four; ERA and ELA rotate the word and E.
 abbrev pub turned : ShiftCode → ℕ → Bool → ℕ
 turned Als w e = w / 0o100000 * 0o100000 + w % 0o40000 * 2
 turned Ars w e = w / 0o100000 * 0o100000 + w / 2
@@ -29,8 +30,10 @@ extended Era w e = bit 0 w
 extended Ela w e = bit 15 w
 extended Alf w e = e
 
+-- enabled
 abbrev pub shifted : ShiftCode → ℕ → Bool → Shifted
 shifted code w e = record { word = turned code w e; e = extended code w e }
 
+-- disabled
 abbrev pub unshifted : ShiftCode → ℕ → Bool → Shifted
 unshifted code w e = record { word = w; e = extended code w e }

@@ -1,6 +1,6 @@
 -- The signed value of a word or a double word, the bits of a value, and the values that have them: the language's own
 -- reading, for any width, `w16` and `w32` here. With the sign bit clear a word is its own value, `pos n`; with all bits set
--- it is -1, `negsuc 0`. The laws (range, one word for each value, the sign bit) are in the facade's proofs (`Signed`).
+-- it is -1, `negsuc 0`. The laws (range, one word for each value, the sign bit) are in proofs/ (`Signed`).
 -- Assumes nothing.
 use Prim.Native.Nat.{ℕ, _^_}
 use mathlib.Core.Bool.{Bool}

@@ -44,8 +44,11 @@ fn o_before(kind: LongShift, o: bool) -> bool
 {
     match kind {
         LongShift::Asl => false,
+        LongShift::Lsl => o,
+        LongShift::Rrl => o,
         LongShift::Asr => false,
-        _ => o,
+        LongShift::Lsr => o,
+        LongShift::Rrr => o,
     }
 }
 
@@ -55,7 +58,11 @@ fn o_after(kind: LongShift, d: u32, o: bool) -> bool
 {
     match kind {
         LongShift::Asl => o || d % 0x8000_0000 / 0x4000_0000 != d / 0x8000_0000,
-        _ => o,
+        LongShift::Lsl => o,
+        LongShift::Rrl => o,
+        LongShift::Asr => o,
+        LongShift::Lsr => o,
+        LongShift::Rrr => o,
     }
 }
 

@@ -1,8 +1,7 @@
+-- `word::bits::byte_of` meets its contract. Assumes nothing.
 use borrow.Author.Needs.{needs}
 use Rattle.word.proofs.bits.byte_of.Statement.{statement}
 use Rattle.word.proofs.bits.byte_of.Tie as tie
-use Rattle.word.proofs.bits.byte_of.Reads as reads
-use Rattle.word.proofs.bits.byte_of.Lts as lts
 
 cast-result : tie.Need-cast-result
 cast-result c = search needs

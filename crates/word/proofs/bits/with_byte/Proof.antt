@@ -1,8 +1,7 @@
+-- `word::bits::with_byte` meets its contract. Assumes nothing.
 use borrow.Author.Needs.{needs}
 use Rattle.word.proofs.bits.with_byte.Statement.{statement}
 use Rattle.word.proofs.bits.with_byte.Tie as tie
-use Rattle.word.proofs.bits.with_byte.Reads as reads
-use Rattle.word.proofs.bits.with_byte.Lts as lts
 
 mul-result : tie.Need-mul-result
 mul-result c = search needs

@@ -1,22 +1,31 @@
--- `word::long::o_after` meets its contract: `loses 1` compares bit 30 with bit 31. Assumes nothing.
-use mathlib.Core.Path.{_≡_, sym, ap}
-use mathlib.Core.Bool.{Bool, false, not, _||_, or-false}
-use mathlib.Core.List.{[], _∷_}
+-- `word::long::o_after` meets its contract, kind by kind: for ASL `loses 1` compares bit 30 with bit 31. Assumes nothing.
+use mathlib.Core.Path.{ap, sym}
+use mathlib.Core.Bool.{not, or-false}
 use Prim.Native.Nat.{ℕ, _/_, _%_, _^_}
 use lib.Dec.{eqb}
 use native.Mathlib.Omega.{arith}
 use borrow.Author.Needs.{needs}
-use types.Run.{OneOf, miss}
-use denote.Enum.Declared.{tagOf}
-use Rattle.word.specs.Long.{loses, overflowed}
-use Rattle.word.specs.declared.long.LongShift.{LongShift}
-use Rattle.word.specs.declared.long.LongShift.the-variants.{Asl, Lsl, Rrl, Asr, Lsr, Rrr}
-use Rattle.word.proofs.long.LongShift.{the-type}
+use Rattle.word.specs.Long.{loses}
 use Rattle.word.proofs.long.o_after.Statement.{statement}
 use Rattle.word.proofs.long.o_after.Tie as tie
 
 enum-told : tie.Need-enum-told
 enum-told c = search needs
+
+enum-told-2 : tie.Need-enum-told-2
+enum-told-2 c = search needs
+
+enum-told-3 : tie.Need-enum-told-3
+enum-told-3 c = search needs
+
+enum-told-4 : tie.Need-enum-told-4
+enum-told-4 c = search needs
+
+enum-told-5 : tie.Need-enum-told-5
+enum-told-5 c = search needs
+
+enum-told-6 : tie.Need-enum-told-6
+enum-told-6 c = search needs
 
 returns : tie.Need-returns
 returns c = search needs
@@ -27,16 +36,35 @@ returns-2 c =
     rw (c .if1 .left, c .before .enum-told .given .1)
     (ap (λ (sign : ℕ). not (eqb (c .before .before .before .args .d % 2 ^ 31 / 2 ^ 30) sign)) (omega arith))
 
-kept : (kind : LongShift) (d : ℕ) (o : Bool) → OneOf (1 ∷ 2 ∷ 3 ∷ 4 ∷ 5 ∷ []) (tagOf the-type kind) → o ≡ (o || overflowed kind 1 d false)
-kept Asl d o k = absurd (miss (1 ∷ 2 ∷ 3 ∷ 4 ∷ 5 ∷ []) 0 tt k)
-kept Lsl d o k = sym (or-false o)
-kept Rrl d o k = sym (or-false o)
-kept Asr d o k = sym (or-false o)
-kept Lsr d o k = sym (or-false o)
-kept Rrr d o k = sym (or-false o)
-
 returns-3 : tie.Need-returns-3
-returns-3 c = kept (c .before .args .kind) (c .before .args .d) (c .before .args .o) (c .match .keys2)
+returns-3 c = rw (c .enum-told2 .given .1) (sym (or-false _))
+
+returns-4 : tie.Need-returns-4
+returns-4 c = rw (c .enum-told3 .given .1) (sym (or-false _))
+
+returns-5 : tie.Need-returns-5
+returns-5 c = rw (c .enum-told4 .given .1) (sym (or-false _))
+
+returns-6 : tie.Need-returns-6
+returns-6 c = rw (c .enum-told5 .given .1) (sym (or-false _))
+
+returns-7 : tie.Need-returns-7
+returns-7 c = rw (c .enum-told6 .given .1) (sym (or-false _))
 
 pub o-after-spec : {M : Type 1} → statement M
-o-after-spec = tie.close (tie.spec enum-told returns returns-2 returns-3)
+o-after-spec =
+    tie.close
+    (tie.spec
+    enum-told
+    enum-told-2
+    enum-told-3
+    enum-told-4
+    enum-told-5
+    enum-told-6
+    returns
+    returns-2
+    returns-3
+    returns-4
+    returns-5
+    returns-6
+    returns-7)

@@ -1,8 +1,7 @@
+-- `word::orders::compare_bytes` meets its contract. Assumes nothing.
 use borrow.Author.Tests.{lt-ltb, le-ltb}
 use Rattle.word.proofs.orders.compare_bytes.Statement.{statement}
 use Rattle.word.proofs.orders.compare_bytes.Tie as tie
-use Rattle.word.proofs.orders.compare_bytes.Reads as reads
-use Rattle.word.proofs.orders.compare_bytes.Lts as lts
 
 returns : tie.Need-returns
 returns c = rw (lt-ltb _ _ (c .if1 .taken))

@@ -28,29 +28,33 @@ word-value-requires c κs = search needs
 word-value-requires-2 : tie.Need-word-value-requires-2
 word-value-requires-2 c κs = search needs
 
+module _ (c : tie.After-word-value2) where
+  abbrev start : tie.Start
+  start = c .before .before
+
+  abbrev first : ℤ
+  first = toZ w16 (ofZ w16 (c .before .word-value .result))
+
+  abbrev second : ℤ
+  second = toZ w16 (ofZ w16 (c .word-value2 .result))
+
+  first-less : {t : Bool} → ltZ first second ≡ t → ltZ (signed w16 (start .args .a)) (signed w16 (start .args .b)) ≡ t
+  first-less = less (start .fits .a) (start .fits .b) (c .before .word-value .ensures) (c .word-value2 .ensures)
+
+  second-less : {t : Bool} → ltZ second first ≡ t → ltZ (signed w16 (start .args .b)) (signed w16 (start .args .a)) ≡ t
+  second-less = less (start .fits .b) (start .fits .a) (c .word-value2 .ensures) (c .before .word-value .ensures)
+
 returns : tie.Need-returns
 unfolding orderOfWords
-returns c =
-    let v = c .before in
-    let w = v .before in
-    let f = w .before .fits in
-    rw (less (f .a) (f .b) (w .word-value .ensures) (v .word-value2 .ensures) (c .if1 .taken))
+returns c = rw (first-less (c .before) (c .if1 .taken))
 
 returns-2 : tie.Need-returns-2
 unfolding orderOfWords
-returns-2 c =
-    let v = c .before .before in
-    let w = v .before in
-    let f = w .before .fits in
-    rw (less (f .a) (f .b) (w .word-value .ensures) (v .word-value2 .ensures) (c .before .if1 .left), less (f .b) (f .a) (v .word-value2 .ensures) (w .word-value .ensures) (c .if2 .taken))
+returns-2 c = rw (first-less (c .before .before) (c .before .if1 .left), second-less (c .before .before) (c .if2 .taken))
 
 returns-3 : tie.Need-returns-3
 unfolding orderOfWords
-returns-3 c =
-    let v = c .before .before in
-    let w = v .before in
-    let f = w .before .fits in
-    rw (less (f .a) (f .b) (w .word-value .ensures) (v .word-value2 .ensures) (c .before .if1 .left), less (f .b) (f .a) (v .word-value2 .ensures) (w .word-value .ensures) (c .if2 .left))
+returns-3 c = rw (first-less (c .before .before) (c .before .if1 .left), second-less (c .before .before) (c .if2 .left))
 
 pub compare-words-spec : {M : Type 1} → statement M
 compare-words-spec =

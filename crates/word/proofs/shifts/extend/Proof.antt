@@ -1,9 +1,8 @@
+-- `word::shifts::extend` meets its contract, code by code. Assumes nothing.
 use native.Mathlib.Nat.{div-one}
 use borrow.Author.Needs.{needs}
 use Rattle.word.proofs.shifts.extend.Statement.{statement}
 use Rattle.word.proofs.shifts.extend.Tie as tie
-use Rattle.word.proofs.shifts.extend.Reads as reads
-use Rattle.word.proofs.shifts.extend.Lts as lts
 
 enum-told : tie.Need-enum-told
 enum-told c = search needs

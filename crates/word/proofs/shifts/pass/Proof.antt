@@ -1,9 +1,7 @@
+-- `word::shifts::pass` meets its contract: that of `extend`. Assumes nothing.
 use borrow.Author.Needs.{needs}
 use Rattle.word.proofs.shifts.pass.Statement.{statement}
 use Rattle.word.proofs.shifts.pass.Tie as tie
-use Rattle.word.proofs.shifts.pass.Reads as reads
-use Rattle.word.proofs.shifts.pass.Lts as lts
-use Rattle.word.proofs.shifts.extend.Reads as extend-reads
 
 extend-requires : tie.Need-extend-requires
 extend-requires c κs = search needs

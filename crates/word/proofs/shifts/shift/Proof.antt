@@ -1,10 +1,7 @@
+-- `word::shifts::shift` meets its contract: those of `turn` and `extend` together. Assumes nothing.
 use borrow.Author.Needs.{needs}
 use Rattle.word.proofs.shifts.shift.Statement.{statement}
 use Rattle.word.proofs.shifts.shift.Tie as tie
-use Rattle.word.proofs.shifts.shift.Reads as reads
-use Rattle.word.proofs.shifts.shift.Lts as lts
-use Rattle.word.proofs.shifts.extend.Reads as extend-reads
-use Rattle.word.proofs.shifts.turn.Reads as turn-reads
 
 turn-requires : tie.Need-turn-requires
 turn-requires c κs = search needs

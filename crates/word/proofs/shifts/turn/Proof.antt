@@ -1,11 +1,9 @@
+-- `word::shifts::turn` meets its contract, code by code; E enters as a weight below 2 (`weight-lt`). Assumes nothing.
 use native.Mathlib.Omega.{arith}
 use Rattle.word.proofs.Weights.{weight-lt}
 use borrow.Author.Needs.{needs}
 use Rattle.word.proofs.shifts.turn.Statement.{statement}
 use Rattle.word.proofs.shifts.turn.Tie as tie
-use Rattle.word.proofs.shifts.turn.Reads as reads
-use Rattle.word.proofs.shifts.turn.Lts as lts
-use Rattle.word.proofs.bits.weight_of.Reads as weight-of-reads
 
 enum-told : tie.Need-enum-told
 enum-told c = search needs

@@ -1,20 +1,15 @@
+-- `word::sums::add` meets its contract: `sum-is` of `Carries`. Assumes nothing.
 use Rattle.word.proofs.Carries.{sum-is}
 use borrow.Author.Needs.{needs}
 use Rattle.word.proofs.sums.add.Statement.{statement}
 use Rattle.word.proofs.sums.add.Tie as tie
-use Rattle.word.proofs.sums.add.Reads as reads
-use Rattle.word.proofs.sums.add.Lts as lts
-use Rattle.std.proofs.num.wrapping_add_u16.Reads as wrapping-add-u16-reads
 
--- src/sums.rt:16:9
 wrapping-add-u16-requires : tie.Need-wrapping-add-u16-requires
 wrapping-add-u16-requires c κs = search needs
 
--- src/sums.rt:18:28
 add-into : tie.Need-add-into
 add-into c = search needs
 
--- src/sums.rt:13:1
 returns : tie.Need-returns
 returns c =
     sum-is (c .before .args .a) (c .before .args .b) (c .wrapping-add-u16 .result)
