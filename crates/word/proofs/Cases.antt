@@ -3,18 +3,27 @@
 --     exchanged                                  a rotate by 16 exchanges B and A
 --     lowest-by-negative .. below-lowest-by-negative     the quotients -32,768 and 32,767, and those past them
 --     lowest-double, by-zero                     -2,147,483,648 by -1; divisor 0
--- Assumes nothing.
+-- Last, for each definition that no case above meets, values that tell it from its near misses. Assumes nothing.
 use Prim.Native.Nat.{ℕ}
-use mathlib.Core.Path.{_≡_, refl}
+use mathlib.Core.Path.{_≡_, refl, ap}
 use mathlib.Core.Bool.{Bool, true, false}
-use Rattle.word.specs.Words.{byteOf, withByte}
-use Rattle.word.specs.Sums.{sum, incremented}
-use Rattle.word.specs.Shifts.{unshifted}
+use mathlib.Core.List.{[], _∷_, map}
+use lib.Bits.{bitAnd, bitOr, bitXor, and-zero-r}
+use lib.Dec.{eqb}
+use lib.IntN.{pos, negsuc}
+use mir.Syntax.{w16, w32}
+use Rattle.word.specs.Words.{weight, complemented, byteOf, withByte, bitsCleared, everyBitSet, joined}
+use Rattle.word.specs.Signed.{signed, bitsOf}
+use Rattle.word.specs.Sums.{sum, incremented, decremented, address}
+use Rattle.word.specs.Shifts.{turned, extended, unshifted}
 use Rattle.word.specs.Long.{moved, loses, longShifted}
 use Rattle.word.specs.Products.{multiplied, divided}
-use Rattle.word.specs.declared.shifts.ShiftCode.the-variants.{Ela}
+use Rattle.word.specs.Orders.{orderOfWords, orderOfBytes}
+use Rattle.word.specs.declared.shifts.ShiftCode.{ShiftCode}
+use Rattle.word.specs.declared.shifts.ShiftCode.the-variants.{Als, Ars, Ral, Rar, Alr, Era, Ela, Alf}
 use Rattle.word.specs.declared.long.LongShift.the-variants.{Asl, Rrl, Asr}
 use Rattle.word.specs.declared.products.Quotient.the-variants.{Divided, Overflow}
+use Rattle.word.specs.declared.orders.Order.the-variants.{Smaller, Equal, Greater}
 
 -- "C1 A 077777, INA: A 100000, O set, E kept": no carry
 pub c1 : incremented 0o077777 ≡ record { word = 0o100000; carry = false; overflow = true }
@@ -104,3 +113,68 @@ lowest-double = refl
 pub by-zero : (b a : ℕ) → divided b a 0 ≡ Overflow
 unfolding divided
 by-zero b a = refl
+
+-- ---- answers told apart, by file of specs/
+
+pub weights : (weight false ≡ 0) × (weight true ≡ 1)
+weights = (refl, refl)
+
+pub logical : (bitAnd 0o000014 0o000012 ≡ 0o000010) × (bitOr 0o000014 0o000012 ≡ 0o000016) × (bitXor 0o000014 0o000012 ≡ 0o000006)
+logical = (refl, refl, refl)
+
+pub complements : (complemented 0 ≡ 0o177777) × (complemented 0o000014 ≡ 0o177763)
+complements = (refl, refl)
+
+pub bytes : (byteOf false 0o123456 ≡ 0o247) × (byteOf true 0o123456 ≡ 0o056)
+bytes = (refl, refl)
+
+pub byte-stores : (withByte false 0o123456 1 ≡ 0o000456) × (withByte true 0o123456 1 ≡ 0o123401)
+byte-stores = (refl, refl)
+
+pub masks : (bitsCleared 0o000014 0o000012 ≡ 0o000002) × (everyBitSet 0o000014 0o000010 ≡ false) × ((w : ℕ) → everyBitSet 0 w ≡ true)
+masks = (refl, refl, λ w. ap (λ (n : ℕ). eqb n 0) (and-zero-r w))
+
+-- the second word counts 1, the first 65,536
+pub joins : (joined 0 1 ≡ 1) × (joined 1 0 ≡ 0o200000)
+joins = (refl, refl)
+
+pub word-values : (signed w16 0o077777 ≡ pos 32767) × (signed w16 0o100000 ≡ negsuc 32767) × (signed w16 0o177777 ≡ negsuc 0)
+word-values = (refl, refl, refl)
+
+pub double-values : (signed w32 0x7fffffff ≡ pos 2147483647) × (signed w32 0x80000000 ≡ negsuc 2147483647)
+double-values = (refl, refl)
+
+pub double-bits : (bitsOf w32 (pos 1) ≡ 1) × (bitsOf w32 (negsuc 0) ≡ 0xffffffff)
+double-bits = (refl, refl)
+
+-- no overflow with a carry, overflow without one, and both
+pub sums : (sum 0o177777 0o177777 ≡ record { word = 0o177776; carry = true; overflow = false })
+    × (sum 0o077777 0o000001 ≡ record { word = 0o100000; carry = false; overflow = true })
+    × (sum 0o100000 0o177777 ≡ record { word = 0o077777; carry = true; overflow = true })
+unfolding sum
+sums = (refl, refl, refl)
+
+pub decrements : (decremented 0 .word ≡ 0o177777) × (decremented 1 .word ≡ 0)
+unfolding sum
+decrements = (refl, refl)
+
+-- C15's P; and bit 15 of what is added to falls away
+pub addresses : (address 0o077777 1 ≡ 0) × (address 0o100002 1 ≡ 3)
+addresses = (refl, refl)
+
+-- ALS ARS RAL RAR ALR ERA ELA ALF of 100006 with E set
+pub codes : map (λ (code : ShiftCode). turned code 0o100006 true) (Als ∷ Ars ∷ Ral ∷ Rar ∷ Alr ∷ Era ∷ Ela ∷ Alf ∷ [])
+    ≡ (0o100014 ∷ 0o140003 ∷ 0o000015 ∷ 0o040003 ∷ 0o000014 ∷ 0o140003 ∷ 0o000015 ∷ 0o000150 ∷ [])
+codes = refl
+
+-- ERA gives E bit 0, ELA bit 15, and no other code changes it
+pub extends : map (λ (code : ShiftCode). extended code 0o100006 true) (Als ∷ Era ∷ Ela ∷ Alf ∷ []) ≡ (true ∷ false ∷ true ∷ true ∷ [])
+extends = refl
+
+-- signed words, unsigned bytes
+pub word-orders : (orderOfWords 0o177777 0 ≡ Smaller) × (orderOfWords 0 0o177777 ≡ Greater) × (orderOfWords 5 5 ≡ Equal)
+unfolding orderOfWords
+word-orders = (refl, refl, refl)
+
+pub byte-orders : (orderOfBytes 0o377 0 ≡ Greater) × (orderOfBytes 0 0o377 ≡ Smaller) × (orderOfBytes 5 5 ≡ Equal)
+byte-orders = (refl, refl, refl)

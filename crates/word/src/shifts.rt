@@ -63,8 +63,9 @@ pub fn shift(code: ShiftCode, word: u16, e: bool) -> Shifted
 pub fn pass(code: ShiftCode, word: u16, e: bool) -> Shifted
     ensures { λ r. ⌜ r ≡ unshifted code word e ⌝ }
 {
+    let after = extend(code, word, e);
     Shifted {
         word: word,
-        e: extend(code, word, e),
+        e: after,
     }
 }
