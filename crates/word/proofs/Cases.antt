@@ -1,9 +1,9 @@
--- The numbers of 01's cases that this layer fixes, by computation, in 01's order: C1, C2, C6 to C11, C13. The steps that use
--- them, with what E, O and the registers keep, are proved over the machine. Then the ends that 01 and the manual name:
---     exchanged                                  a rotate by 16 exchanges B and A
+-- The numbers of 01's cases that this layer fixes, by computation, in 01's order: C1, C2, C6 to C11, C13. What E, O and the
+-- registers keep in them is the step's and is not here. Then the ends of the ranges:
+--     exchanged                                          a rotate by 16 exchanges B and A
 --     lowest-by-negative .. below-lowest-by-negative     the quotients -32,768 and 32,767, and those past them
---     lowest-double, by-zero                     -2,147,483,648 by -1; divisor 0
--- Last, for each definition that no case above meets, values that tell it from its near misses. Assumes nothing.
+--     lowest-double, by-zero                             -2,147,483,648 by -1; divisor 0
+-- Last, for the definitions that no case above meets, values that tell them from near misses. Assumes nothing.
 use Prim.Native.Nat.{ℕ}
 use mathlib.Core.Path.{_≡_, refl, ap}
 use mathlib.Core.Bool.{Bool, true, false}
@@ -167,9 +167,15 @@ pub codes : map (λ (code : ShiftCode). turned code 0o100006 true) (Als ∷ Ars 
     ≡ (0o100014 ∷ 0o140003 ∷ 0o000015 ∷ 0o040003 ∷ 0o000014 ∷ 0o140003 ∷ 0o000015 ∷ 0o000150 ∷ [])
 codes = refl
 
--- ERA gives E bit 0, ELA bit 15, and no other code changes it
-pub extends : map (λ (code : ShiftCode). extended code 0o100006 true) (Als ∷ Era ∷ Ela ∷ Alf ∷ []) ≡ (true ∷ false ∷ true ∷ true ∷ [])
+-- the same of 000006: ERA gives E bit 0 and ELA bit 15, and no other code changes it
+pub extends : map (λ (code : ShiftCode). extended code 0o000006 true) (Als ∷ Ars ∷ Ral ∷ Rar ∷ Alr ∷ Era ∷ Ela ∷ Alf ∷ [])
+    ≡ (true ∷ true ∷ true ∷ true ∷ true ∷ false ∷ false ∷ true ∷ [])
 extends = refl
+
+-- -1 by 1
+pub signed-product : multiplied 0o177777 1 ≡ record { b = 0o177777; a = 0o177777 }
+unfolding multiplied
+signed-product = refl
 
 -- signed words, unsigned bytes
 pub word-orders : (orderOfWords 0o177777 0 ≡ Smaller) × (orderOfWords 0 0o177777 ≡ Greater) × (orderOfWords 5 5 ≡ Equal)
