@@ -1,0 +1,85 @@
+-- `access::store_word` meets its contract: an arm for each place; a place in memory lies below the length. Assumes nothing.
+use Prim.Native.Nat.{ℕ, _<_}
+use native.Mathlib.Omega.{arith}
+use mathlib.Core.Path.{_≡_, sym, _∙_}
+use mathlib.Core.List.{List}
+use lib.ListN.{length}
+use borrow.Author.Needs.{needs}
+use Rattle.maps.specs.Pages.{place}
+use Rattle.maps.specs.Access.{put, Stored}
+use Rattle.maps.specs.Behind.{in-memory}
+use Rattle.maps.specs.declared.pages.Map.{Map}
+use Rattle.maps.specs.declared.pages.Purpose.{Purpose}
+use Rattle.maps.specs.declared.pages.Place.{Place}
+use Rattle.maps.proofs.access.store_word.Statement.{statement}
+use Rattle.maps.proofs.access.store_word.Tie as tie
+
+-- a place in memory lies below its length
+below : (c : tie.After-index) → c .index .given .0 .0 < length (c .before .before .before .before .before .args .memory .now)
+below c = in-memory _ _ _ _ _ _ _ (sym (c .before .before .place-of .ensures) ∙ c .index .given .1) .below
+
+stored : (pages earlier : List ℕ) (wmap : ℕ) (map : Map) (address value : ℕ) {r : Place}
+    → place pages wmap map Purpose.Store address (length earlier) ≡ r
+    → Stored pages earlier wmap map address value r (put r earlier value)
+stored pages earlier wmap map address value e = record { outcome = sym e; memory = rw e }
+
+place-of-requires : tie.Need-place-of-requires
+place-of-requires c κs = search needs
+
+enum-told : tie.Need-enum-told
+enum-told c = search needs
+
+enum-told-2 : tie.Need-enum-told-2
+enum-told-2 c = search needs
+
+enum-known-index : tie.Need-enum-known-index
+enum-known-index c = search needs
+
+mul-memory : tie.Need-mul-memory
+mul-memory c = omega (arith, below (c .before))
+
+slice-write-memory : tie.Need-slice-write-memory
+slice-write-memory c = below (c .before)
+
+enum-told-3 : tie.Need-enum-told-3
+enum-told-3 c = search needs
+
+enum-known-page : tie.Need-enum-known-page
+enum-known-page c = search needs
+
+returns : tie.Need-returns
+returns c = stored _ _ _ _ _ _ (sym (c .before .before .place-of .ensures) ∙ c .enum-told .given .1)
+
+returns-2 : tie.Need-returns-2
+returns-2 c = stored _ _ _ _ _ _ (sym (c .before .before .place-of .ensures) ∙ c .enum-told2 .given .1)
+
+same-length : tie.Need-same-length
+same-length c = search needs
+
+returns-3 : tie.Need-returns-3
+returns-3 c = stored _ _ _ _ _ _ (sym (c .before .before .before .place-of .ensures) ∙ c .before .index .given .1)
+
+returns-4 : tie.Need-returns-4
+returns-4 c = stored _ _ _ _ _ _ (sym (c .before .before .place-of .ensures) ∙ c .enum-told3 .given .1)
+
+returns-5 : tie.Need-returns-5
+returns-5 c = stored _ _ _ _ _ _ (sym (c .before .before .before .place-of .ensures) ∙ c .before .page .given .1)
+
+pub store-word-spec : {M : Type 1} → statement M
+store-word-spec =
+    tie.close
+    (tie.spec
+    place-of-requires
+    enum-told
+    enum-told-2
+    enum-known-index
+    mul-memory
+    slice-write-memory
+    enum-told-3
+    enum-known-page
+    returns
+    returns-2
+    same-length
+    returns-3
+    returns-4
+    returns-5)

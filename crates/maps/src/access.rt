@@ -1,0 +1,57 @@
+// A word at a logical address, read and stored.
+ghost use mathlib.Core.Path.{_≡_};
+ghost use Rattle.maps.specs.Access.{fetched, Stored};
+use crate::pages::Map;
+use crate::pages::Place;
+use crate::pages::Purpose;
+use crate::pages::place_of;
+
+pub enum Fetched {
+    Word(u16),
+    Closed,
+    Absent(u16),
+}
+
+// `a` and `b` are the words that A and B hold.
+pub fn read_word(
+    pages: &[u16],
+    memory: &[u16],
+    wmap: u16,
+    map: Map,
+    address: u16,
+    a: u16,
+    b: u16,
+) -> Fetched
+    ensures { λ r. ⌜ r ≡ fetched (now (pages .entry)) (now (memory .entry)) wmap map address a b ⌝ }
+{
+    match place_of(pages, wmap, map, Purpose::Read, address, memory.len()) {
+        Place::A => Fetched::Word(a),
+        Place::B => Fetched::Word(b),
+        Place::Memory(index) => Fetched::Word(memory[index]),
+        Place::Closed => Fetched::Closed,
+        Place::Absent(page) => Fetched::Absent(page),
+    }
+}
+
+// Stores a word of memory. A store to A or B is the caller's to carry out.
+pub fn store_word(
+    pages: &[u16],
+    memory: &mut [u16],
+    wmap: u16,
+    map: Map,
+    address: u16,
+    value: u16,
+) -> Place
+    ensures { λ r. ⌜ Stored (now (pages .entry)) (now (memory .entry)) wmap map address value r (now (memory .exit)) ⌝ }
+{
+    match place_of(pages, wmap, map, Purpose::Store, address, memory.len()) {
+        Place::A => Place::A,
+        Place::B => Place::B,
+        Place::Memory(index) => {
+            memory[index] = value;
+            Place::Memory(index)
+        }
+        Place::Closed => Place::Closed,
+        Place::Absent(page) => Place::Absent(page),
+    }
+}
