@@ -1,5 +1,7 @@
 // A word at a logical address, read and stored.
+ghost use Prim.Native.Nat.{_<_};
 ghost use mathlib.Core.Path.{_≡_};
+ghost use lib.ListN.{length, set};
 ghost use Rattle.maps.specs.Access.{fetched, Stored};
 use crate::pages::Map;
 use crate::pages::Place;
@@ -33,6 +35,14 @@ pub fn read_word(
     }
 }
 
+// The one place where memory is written: the word at an index, and no other.
+fn set_word(memory: &mut [u16], index: usize, value: u16)
+    requires { ⌜ index < length (now memory) ⌝ }
+    ensures { λ r. ⌜ now (memory .exit) ≡ set (now (memory .entry)) index value ⌝ }
+{
+    memory[index] = value;
+}
+
 // Stores a word of memory. A store to A or B is the caller's to carry out.
 pub fn store_word(
     pages: &[u16],
@@ -48,7 +58,7 @@ pub fn store_word(
         Place::A => Place::A,
         Place::B => Place::B,
         Place::Memory(index) => {
-            memory[index] = value;
+            set_word(memory, index, value);
             Place::Memory(index)
         }
         Place::Closed => Place::Closed,

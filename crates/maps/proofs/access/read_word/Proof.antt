@@ -5,7 +5,7 @@ use mathlib.Core.Path.{sym, _∙_}
 use lib.ListN.{length}
 use borrow.Author.Needs.{needs}
 use Rattle.maps.specs.Access.{fetched}
-use Rattle.maps.specs.Behind.{in-memory}
+use Rattle.maps.specs.Laws.{place-below}
 use Rattle.maps.proofs.access.read_word.Statement.{statement}
 use Rattle.maps.proofs.access.read_word.Tie as tie
 
@@ -23,7 +23,7 @@ enum-known-index c = search needs
 
 -- a place in memory lies below its length
 below : (c : tie.After-index) → c .index .given .0 .0 < length (c .before .before .before .before .before .args .memory .now)
-below c = in-memory _ _ _ _ _ _ _ (sym (c .before .before .place-of .ensures) ∙ c .index .given .1) .below
+below c = place-below _ _ _ _ _ _ _ (sym (c .before .before .place-of .ensures) ∙ c .index .given .1)
 
 mul-t14 : tie.Need-mul-t14
 mul-t14 c = omega (arith, below (c .before))

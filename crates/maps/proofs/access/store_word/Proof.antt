@@ -1,13 +1,12 @@
 -- `access::store_word` meets its contract: an arm for each place; a place in memory lies below the length. Assumes nothing.
 use Prim.Native.Nat.{ℕ, _<_}
-use native.Mathlib.Omega.{arith}
 use mathlib.Core.Path.{_≡_, sym, _∙_}
 use mathlib.Core.List.{List}
 use lib.ListN.{length}
 use borrow.Author.Needs.{needs}
 use Rattle.maps.specs.Pages.{place}
 use Rattle.maps.specs.Access.{put, Stored}
-use Rattle.maps.specs.Behind.{in-memory}
+use Rattle.maps.specs.Laws.{place-below}
 use Rattle.maps.specs.declared.pages.Map.{Map}
 use Rattle.maps.specs.declared.pages.Purpose.{Purpose}
 use Rattle.maps.specs.declared.pages.Place.{Place}
@@ -16,7 +15,7 @@ use Rattle.maps.proofs.access.store_word.Tie as tie
 
 -- a place in memory lies below its length
 below : (c : tie.After-index) → c .index .given .0 .0 < length (c .before .before .before .before .before .args .memory .now)
-below c = in-memory _ _ _ _ _ _ _ (sym (c .before .before .place-of .ensures) ∙ c .index .given .1) .below
+below c = place-below _ _ _ _ _ _ _ (sym (c .before .before .place-of .ensures) ∙ c .index .given .1)
 
 stored : (pages earlier : List ℕ) (wmap : ℕ) (map : Map) (address value : ℕ) {r : Place}
     → place pages wmap map Purpose.Store address (length earlier) ≡ r
@@ -35,11 +34,8 @@ enum-told-2 c = search needs
 enum-known-index : tie.Need-enum-known-index
 enum-known-index c = search needs
 
-mul-memory : tie.Need-mul-memory
-mul-memory c = omega (arith, below (c .before))
-
-slice-write-memory : tie.Need-slice-write-memory
-slice-write-memory c = below (c .before)
+set-word-requires : tie.Need-set-word-requires
+set-word-requires c κs = below (c .before .before)
 
 enum-told-3 : tie.Need-enum-told-3
 enum-told-3 c = search needs
@@ -57,7 +53,9 @@ same-length : tie.Need-same-length
 same-length c = search needs
 
 returns-3 : tie.Need-returns-3
-returns-3 c = stored _ _ _ _ _ _ (sym (c .before .before .before .place-of .ensures) ∙ c .before .index .given .1)
+returns-3 c =
+    rw (c .before .before .set-word .ensures)
+    (stored _ _ _ _ _ _ (sym (c .before .before .before .before .before .before .before .place-of .ensures) ∙ c .before .before .before .before .before .index .given .1))
 
 returns-4 : tie.Need-returns-4
 returns-4 c = stored _ _ _ _ _ _ (sym (c .before .before .place-of .ensures) ∙ c .enum-told3 .given .1)
@@ -73,8 +71,7 @@ store-word-spec =
     enum-told
     enum-told-2
     enum-known-index
-    mul-memory
-    slice-write-memory
+    set-word-requires
     enum-told-3
     enum-known-page
     returns
