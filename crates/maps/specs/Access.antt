@@ -2,7 +2,8 @@
 --     held, fetched       what a place holds, and what a read answers
 --     put, Stored         what a store leaves, and what it answers
 --     numberFetched       the paper's numbers
--- Assumes nothing.
+-- Not here: where an address leads (`Pages`). A store to A or B changes a register, which is the upper layer's: the answer
+-- says that the place is A or B. Assumes nothing.
 use Prim.Native.Nat.{ℕ}
 use mathlib.Core.Path.{_≡_}
 use mathlib.Core.List.{List}
@@ -25,7 +26,7 @@ unfoldable pub fetched : List ℕ → List ℕ → ℕ → Map → ℕ → ℕ �
 fetched pages memory wmap map address a b =
     held (place pages wmap map Purpose.Read address (length memory)) memory a b
 
--- memory after a store at a place: A and B are no part of it
+-- memory after a store at a place: one word changed, or none (01, replies 1 and 4: "no memory word changed", "all as given")
 abbrev pub put : Place → List ℕ → ℕ → List ℕ
 put Place.A memory value = memory
 put Place.B memory value = memory
@@ -37,6 +38,7 @@ pub record Stored (pages earlier : List ℕ) (wmap : ℕ) (map : Map) (address v
   pub outcome : r ≡ place pages wmap map Purpose.Store address (length earlier)
   pub memory : later ≡ put (place pages wmap map Purpose.Store address (length earlier)) earlier value
 
+-- the numbers of `Pages.numberPlace`
 abbrev pub numberFetched : Fetched → ℕ
 numberFetched (Fetched.Word word) = 0
 numberFetched Fetched.Closed = 1

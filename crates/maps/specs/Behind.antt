@@ -1,4 +1,5 @@
--- What stands behind `Laws`: nothing here is for the upper layer.
+-- Lemmas behind the proofs of `Laws` and of the functions. A reader of the rules may skip this file: no promise and no law
+-- names anything of it. It stands here because a file of specs/ cannot cite one of proofs/.
 --     never                               two different answers are not equal
 --     InMemory, in-memory                 how an access comes to a word of memory
 --     or-true to whole                    what the laws need of the two tests
@@ -160,6 +161,11 @@ held-same Place.B m n a b h = refl
 held-same (Place.Memory index) m n a b h = ap Fetched.Word (h index refl)
 held-same Place.Closed m n a b h = refl
 held-same (Place.Absent page) m n a b h = refl
+
+pub held-word : (p : Place) (memory : List ℕ) (a b : ℕ) → Reached p → (word : ℕ) × (held p memory a b ≡ Fetched.Word word)
+held-word Place.A memory a b Reached.at-a = (a, refl)
+held-word Place.B memory a b Reached.at-b = (b, refl)
+held-word (Place.Memory index) memory a b Reached.at-word = (getD memory index 0, refl)
 
 pub held-closed : (p : Place) (memory : List ℕ) (a b : ℕ) → held p memory a b ≡ Fetched.Closed → p ≡ Place.Closed
 held-closed Place.A memory a b e = never (cc)

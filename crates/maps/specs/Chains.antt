@@ -1,6 +1,8 @@
 -- Indirect chains.
---     chased, chain       where an address word leads: `chased` over how a word is read, `chain` in the Execute map
---     numberChain         the paper's numbers
+--     goingOn, chased         where an address word leads, over any way to read a word
+--     executeWord, chain      the same in the Execute map
+--     numberChain             the paper's numbers
+-- The first trouble met decides: a closed or an absent word ends the chain. A and B in a chain are the words that they hold.
 -- Assumes nothing.
 use Prim.Native.Nat.{ℕ, zero, suc, _%_}
 use mathlib.Core.Bool.{true, false, cond}
@@ -33,6 +35,7 @@ executeWord pages memory wmap a b address = fetched pages memory wmap Map.Execut
 unfoldable pub chain : List ℕ → List ℕ → ℕ → ℕ → ℕ → ℕ → Chain
 chain pages memory wmap word a b = chased (executeWord pages memory wmap a b) 32768 word
 
+-- the numbers of `Pages.numberPlace`, and 01's reply 3: "an indirect chain never ends"
 abbrev pub numberChain : Chain → ℕ
 numberChain (Chain.Address address) = 0
 numberChain Chain.Endless = 3

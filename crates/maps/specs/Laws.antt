@@ -1,11 +1,13 @@
 -- What the layer promises upward: each law once, so that no upper proof opens a definition of this layer.
+--     The paper's numbers        each tells the case of an answer
+--     What a store leaves        one word changed, or none
 --     The place of an access     its two tests decide it; after both succeed the access succeeds
 --     Reading and storing        a read sees the word at its place, a store changes that word and no other
 --     Pages left open            with protection on an access keeps to the pages left open to it
 --     Chains                     where they end
 --     Whole pages                a range is tested page by page
 --     Ranges                     words, pages and addresses stay in their ranges
--- The definitions are in `Pages`, `Access`, `Chains` and `Open`, the lemmas behind the proofs in `Behind`.
+-- The definitions are in `Pages`, `Access`, `Chains` and `Open`. Lemmas that only the proofs need are in `Behind`.
 -- Assumes nothing.
 use Prim.Native.Nat.{ℕ, _<_, _≤_, _+_, _-_, _*_, _/_, _%_}
 use native.Mathlib.Omega.{arith}
@@ -19,15 +21,51 @@ use lib.Seq.{getD-set-same}
 use Rattle.word.specs.Words.{bit}
 use Rattle.maps.specs.Pages.{readProtected, protecting, physicalPage, pageRegister, registerOf, indexIn, isRegister, isOpen, presence, spot, place, Reached, numberPlace, numberPresence}
 use Rattle.maps.specs.Access.{held, fetched, put, numberFetched}
-use Rattle.maps.specs.Chains.{chased, executeWord, chain}
+use Rattle.maps.specs.Chains.{chased, executeWord, chain, numberChain}
 use Rattle.maps.specs.Open.{OpenTo, OpenToRead, OpenToStore, Agree}
-use Rattle.maps.specs.Behind.{never, in-memory, or-true, or-left, or-right, and-left, and-right, both-open, number-of, closed-by, reached-by, absent-by, whole, beyond, fifteen-register, fifteen-page, held-same, held-closed, held-absent, held-number, held-range, set-cases, set-either, chased-ends, chased-itself, chased-all}
+use Rattle.maps.specs.Behind.{never, in-memory, or-true, or-left, or-right, and-left, and-right, both-open, number-of, closed-by, reached-by, absent-by, whole, beyond, fifteen-register, fifteen-page, held-same, held-word, held-closed, held-absent, held-number, held-range, set-cases, set-either, chased-ends, chased-itself, chased-all}
 use Rattle.maps.specs.declared.pages.Map.{Map}
 use Rattle.maps.specs.declared.pages.Purpose.{Purpose}
 use Rattle.maps.specs.declared.pages.Place.{Place}
 use Rattle.maps.specs.declared.pages.Presence.{Presence}
 use Rattle.maps.specs.declared.access.Fetched.{Fetched}
 use Rattle.maps.specs.declared.chains.Chain.{Chain}
+
+---- The paper's numbers: each tells the case, and the case holds what else the answer says
+
+pub place-told : (p : Place)
+    → (numberPlace p ≡ 0 → Reached p)
+    × (numberPlace p ≡ 1 → p ≡ Place.Closed)
+    × (numberPlace p ≡ 4 → (page : ℕ) × (p ≡ Place.Absent page))
+place-told Place.A = ((λ e. Reached.at-a), (λ e. absurd (omega arith)), (λ e. absurd (omega arith)))
+place-told Place.B = ((λ e. Reached.at-b), (λ e. absurd (omega arith)), (λ e. absurd (omega arith)))
+place-told (Place.Memory index) = ((λ e. Reached.at-word), (λ e. absurd (omega arith)), (λ e. absurd (omega arith)))
+place-told Place.Closed = ((λ e. absurd (omega arith)), (λ e. refl), (λ e. absurd (omega arith)))
+place-told (Place.Absent page) = ((λ e. absurd (omega arith)), (λ e. absurd (omega arith)), (λ e. (page, refl)))
+
+pub presence-told : (p : Presence)
+    → (numberPresence p ≡ 0 → p ≡ Presence.Present)
+    × (numberPresence p ≡ 4 → (page : ℕ) × (p ≡ Presence.Absent page))
+presence-told Presence.Present = ((λ e. refl), (λ e. absurd (omega arith)))
+presence-told (Presence.Absent page) = ((λ e. absurd (omega arith)), (λ e. (page, refl)))
+
+pub fetched-told : (f : Fetched)
+    → (numberFetched f ≡ 0 → (word : ℕ) × (f ≡ Fetched.Word word))
+    × (numberFetched f ≡ 1 → f ≡ Fetched.Closed)
+    × (numberFetched f ≡ 4 → (page : ℕ) × (f ≡ Fetched.Absent page))
+fetched-told (Fetched.Word word) = ((λ e. (word, refl)), (λ e. absurd (omega arith)), (λ e. absurd (omega arith)))
+fetched-told Fetched.Closed = ((λ e. absurd (omega arith)), (λ e. refl), (λ e. absurd (omega arith)))
+fetched-told (Fetched.Absent page) = ((λ e. absurd (omega arith)), (λ e. absurd (omega arith)), (λ e. (page, refl)))
+
+pub chain-told : (c : Chain)
+    → (numberChain c ≡ 0 → (address : ℕ) × (c ≡ Chain.Address address))
+    × (numberChain c ≡ 1 → c ≡ Chain.Closed)
+    × (numberChain c ≡ 3 → c ≡ Chain.Endless)
+    × (numberChain c ≡ 4 → (page : ℕ) × (c ≡ Chain.Absent page))
+chain-told (Chain.Address address) = ((λ e. (address, refl)), (λ e. absurd (omega arith)), (λ e. absurd (omega arith)), (λ e. absurd (omega arith)))
+chain-told Chain.Endless = ((λ e. absurd (omega arith)), (λ e. absurd (omega arith)), (λ e. refl), (λ e. absurd (omega arith)))
+chain-told Chain.Closed = ((λ e. absurd (omega arith)), (λ e. refl), (λ e. absurd (omega arith)), (λ e. absurd (omega arith)))
+chain-told (Chain.Absent page) = ((λ e. absurd (omega arith)), (λ e. absurd (omega arith)), (λ e. absurd (omega arith)), (λ e. (page, refl)))
 
 ---- What a store leaves, at any place
 
@@ -223,6 +261,16 @@ module _ (pages : List ℕ) (wmap : ℕ) where
   unfolding fetched
   fetched-number memory map address a b = held-number (place pages wmap map Purpose.Read address (length memory)) memory a b
 
+  -- after the tests of a read succeed, it answers a word
+  pub fetched-reached : (memory : List ℕ) (map : Map) (address a b : ℕ)
+      → isOpen pages wmap map Purpose.Read address ≡ true
+      → presence pages wmap map address (length memory) ≡ Presence.Present
+      → (word : ℕ) × (fetched pages memory wmap map address a b ≡ Fetched.Word word)
+  unfolding fetched
+  fetched-reached memory map address a b e f =
+      rw (place-reached map Purpose.Read address (length memory) e f)
+      (held-word (spot pages wmap map address) memory a b (spot-reached map address))
+
   -- a read depends only on the word at its place
   pub fetched-same : (m n : List ℕ) (map : Map) (address a b : ℕ) → length m ≡ length n
       → ((index : ℕ) → place pages wmap map Purpose.Read address (length m) ≡ Place.Memory index → getD m index 0 ≡ getD n index 0)
@@ -336,6 +384,19 @@ module _ (pages : List ℕ) (wmap : ℕ) where
       → chain pages memory wmap word a b ≡ Chain.Endless
   unfolding chain
   chain-itself memory word a b e f = chased-itself (executeWord pages memory wmap a b) 32768 word e f
+
+  -- the paper's number: the chain ends (0) or is endless (3), or it is that of a word read in the Execute map
+  pub chain-number : (memory : List ℕ) (word a b : ℕ)
+      → (numberChain (chain pages memory wmap word a b) ≡ 0)
+      ⊎ ((numberChain (chain pages memory wmap word a b) ≡ 3)
+      ⊎ ((address : ℕ) × (numberChain (chain pages memory wmap word a b) ≡ numberFetched (fetched pages memory wmap Map.Execute address a b))))
+  unfolding chain
+  chain-number memory word a b =
+      chased-all (executeWord pages memory wmap a b)
+      (λ c. (numberChain c ≡ 0) ⊎ ((numberChain c ≡ 3) ⊎ ((address : ℕ) × (numberChain c ≡ numberFetched (fetched pages memory wmap Map.Execute address a b)))))
+      (inr (inl refl)) (λ w. inl refl)
+      (λ w e. inr (inr (w, rw e))) (λ w page e. inr (inr (w, rw e)))
+      32768 word
 
   pub chain-unprotected : (memory : List ℕ) (word a b : ℕ) → protecting wmap ≡ false
       → chain pages memory wmap word a b ≡ Chain.Closed → ⊥

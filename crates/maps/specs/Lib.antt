@@ -1,11 +1,11 @@
--- What the maps layer means, by subject. The first four stand beside the files of src/.
+-- What the maps layer means, by subject: first the rules, in the order of 01, then what follows from them.
 --     Pages     page registers and WMAP; where a logical address leads
 --     Access    a word read and stored there
 --     Chains    indirect chains
 --     Bytes     a byte's word and half
 --     Open      what the three current maps leave open
 --     Laws      what the layer promises upward
---     Behind    the lemmas behind the laws
+--     Behind    lemmas behind the laws, which a reader may skip
 -- Assumes nothing.
 pub mod Pages
 pub mod Access

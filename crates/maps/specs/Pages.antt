@@ -1,12 +1,14 @@
 -- Page registers and WMAP, and where a logical address leads.
 --     physicalPage, storeProtected, readProtected      the fields of a page register
 --     executeMap, data1Map, data2Map, protecting       the fields of WMAP
---     mapNumber, pageRegister, registerOf              the register that an address goes through
+--     mapNumber, pageRegister                          the page register of a logical page in one of the three maps
+--     registerOf, indexIn                              the page register of an address, and the word that it names
 --     isRegister                                       whether an address is A or B
 --     closedTo, isOpen, presence                       the two tests of an access
---     spot, place, Reached                             where an access ends
+--     spot, ifPresent, place, Reached                  where an access ends
 --     numberPlace, numberPresence                      the paper's numbers
--- The functions are of `src/pages.rt`. What is open to a whole job is in `Open`, what the upper layer cites in `Laws`.
+-- Page registers and memory are lists of any length, and every number is an address: nothing is asked of them. Not here:
+-- what a place holds (`Access`), and what the three current maps leave open as a whole (`Open`).
 -- Assumes nothing.
 use Prim.Native.Nat.{ℕ, _+_, _*_, _/_, _%_}
 use mathlib.Core.Bool.{Bool, false, cond, not, _&&_, _||_}
@@ -72,12 +74,13 @@ closedTo Read register = readProtected register
 closedTo Store register = storeProtected register
 closedTo Both register = readProtected register || storeProtected register
 
--- 01: "With protection on, reading a read-protected page, storing to a store-protected one .. With protection off there are none."
+-- 01: "With protection on, reading a read-protected page, storing to a store-protected one .. are violations. With protection
+-- off there are none".
 unfoldable pub isOpen : List ℕ → ℕ → Map → Purpose → ℕ → Bool
 isOpen pages wmap map purpose address =
     isRegister map address || not (protecting wmap && closedTo purpose (registerOf pages wmap map address))
 
--- 01, reply 4: "a physical page beyond the lent memory is accessed"
+-- 01, reply 4: "a physical page beyond the lent memory is accessed". `length` is that of memory, in words.
 unfoldable pub presence : List ℕ → ℕ → Map → ℕ → ℕ → Presence
 presence pages wmap map address length =
     cond (isRegister map address || ltb (indexIn (registerOf pages wmap map address) address) length)
@@ -108,7 +111,7 @@ pub data Reached : Place → Type 0 where
   at-b : Reached Place.B
   at-word : {index : ℕ} → Reached (Place.Memory index)
 
--- the paper's number of each answer
+-- 01, What a step replies: 0 completed, 1 "a violation was met", 4 "a physical page beyond the lent memory is accessed"
 abbrev pub numberPlace : Place → ℕ
 numberPlace Place.A = 0
 numberPlace Place.B = 0
