@@ -1,5 +1,5 @@
 -- What is proved beside the functions' own proofs. Assumes nothing.
---     Examples    chains that come out of the definitions by computation
---     Tight       two outcomes that satisfy a promise are equal
-pub mod Examples
+--     Cases    01's cases, near misses and long chains, by computation
+--     Tight    each promise fixes its outcome
+pub mod Cases
 pub mod Tight
