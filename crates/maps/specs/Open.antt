@@ -1,7 +1,7 @@
 -- What the three current maps leave open, over page registers and WMAP alone.
 --     OpenTo, OpenToRead, OpenToStore    a physical page that is open to a purpose
 --     Agree                              two memories that agree on every page open to reading
--- Protection is not asked here: whether a page is open says nothing of whether anything is closed.
+-- Whether protection is on is not asked here; the laws that rest on it say so (`place-open` of `Laws`).
 -- Assumes nothing.
 use Prim.Native.Nat.{ℕ, _<_, _/_}
 use mathlib.Core.Path.{_≡_}
