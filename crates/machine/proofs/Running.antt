@@ -1,0 +1,68 @@
+-- A run, one step after another: what a step's answer makes of the steps that are left.
+--     plus                   steps that were counted before
+--     going-on, going-out    a step that replied 0, and one that did not
+--     good-next              the call stays good
+--     one-more, last-one     the same after steps of a budget
+-- Assumes nothing.
+use Prim.Native.Nat.{ℕ, suc, _+_, _-_, _<_}
+use native.Mathlib.Omega.{arith}
+use native.Mathlib.Nat.{zero-add, add-assoc}
+use mathlib.Core.Path.{_≡_, sym, ap, ap₂, _∙_}
+use mathlib.Core.Bool.{true, false}
+use mathlib.Core.List.{List}
+use lib.Dec.{eqb}
+use lib.ListN.{length}
+use Rattle.word.specs.Words.{weight}
+use Rattle.machine.specs.Replies.{number}
+use Rattle.machine.specs.Acts.{Ends, exec, answer, left}
+use Rattle.machine.specs.Rules.{stepAct}
+use Rattle.machine.specs.Step.{goodCall, stepped, Leaves, ending, counting, after, running}
+use Rattle.machine.specs.declared.record.Registers.{Registers}
+use Rattle.machine.specs.declared.replies.Stepped.{Stepped}
+use Rattle.machine.proofs.Valid.{good-stepped, good-kept}
+
+abbrev pub plus : ℕ → Leaves → Leaves
+plus n l = ending (l .ran .reply) (n + l .ran .count) (l .ran .registers) (l .memory)
+
+pub plus-none : (l : Leaves) → l ≡ plus 0 l
+plus-none l = rw zero-add
+
+pub plus-one : (n : ℕ) (l : Leaves) → plus n (counting l) ≡ plus (n + 1) l
+plus-one n l = rw add-assoc
+
+module _ (pages : List ℕ) (r : Registers) (m : List ℕ) (good : goodCall (length pages) (length m) r ≡ true) (t : Stepped) (later : List ℕ)
+    (e : Ends r m (exec pages (stepAct r) r m) t later) where
+  outcome : answer r (stepped pages r m) ≡ t
+  outcome = rw (good-stepped pages r m good) (sym (e .outcome))
+
+  memory : left m (stepped pages r m) ≡ later
+  memory = rw (good-stepped pages r m good) (sym (e .memory))
+
+  going : (n : ℕ) → running pages (suc n) r m ≡ after t later (running pages n (t .registers) later)
+  unfolding running
+  going n = ap₂ (λ (x : Stepped) (l : List ℕ). after x l (running pages n (x .registers) l)) outcome memory
+
+  pub going-on : (n : ℕ) → eqb (number (t .reply)) 0 ≡ true → running pages (suc n) r m ≡ counting (running pages n (t .registers) later)
+  going-on n h = going n ∙ rw h
+
+  pub going-out : (n : ℕ) → eqb (number (t .reply)) 0 ≡ false
+      → running pages (suc n) r m ≡ ending (t .reply) (weight (eqb (number (t .reply)) 1)) (t .registers) later
+  going-out n h = going n ∙ rw h
+
+  pub good-next : goodCall (length pages) (length later) (t .registers) ≡ true
+  good-next = rw (outcome, memory) at (good-kept pages r m good)
+
+  -- after `count` steps of a budget, one more
+  module _ (budget count : ℕ) (few : count < budget) (start : Leaves) (so-far : start ≡ plus count (running pages (budget - count) r m)) where
+    before : start ≡ plus count (running pages (suc (budget - (count + 1))) r m)
+    before =
+        let e : budget - count ≡ suc (budget - (count + 1)) = omega arith in
+        so-far ∙ ap (λ (n : ℕ). plus count (running pages n r m)) e
+
+    pub one-more : eqb (number (t .reply)) 0 ≡ true → start ≡ plus (count + 1) (running pages (budget - (count + 1)) (t .registers) later)
+    one-more h =
+        before ∙ ap (plus count) (going-on (budget - (count + 1)) h) ∙ plus-one count (running pages (budget - (count + 1)) (t .registers) later)
+
+    pub last-one : eqb (number (t .reply)) 0 ≡ false
+        → start ≡ plus count (ending (t .reply) (weight (eqb (number (t .reply)) 1)) (t .registers) later)
+    last-one h = before ∙ ap (plus count) (going-out (budget - (count + 1)) h)

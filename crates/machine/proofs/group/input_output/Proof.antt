@@ -1,0 +1,48 @@
+-- `group::input_output` meets its contract: by what its calls ensure. Assumes nothing.
+use mathlib.Core.Path.{refl}
+use Rattle.machine.specs.Acts.{exec}
+use Rattle.machine.specs.Group.{ioAct}
+use borrow.Author.Needs.{needs}
+use borrow.Author.Tests.{ne-eqb}
+use Rattle.machine.proofs.group.input_output.Statement.{statement}
+use Rattle.machine.proofs.group.input_output.Tie as tie
+
+high-bit-requires : tie.Need-high-bit-requires
+high-bit-requires c κs = search needs
+
+is-halt-requires : tie.Need-is-halt-requires
+is-halt-requires c κs = search needs
+
+interrupt-requires : tie.Need-interrupt-requires
+interrupt-requires c κs = search needs
+
+returns : tie.Need-returns
+unfolding exec ioAct
+returns c = rw (← c .before .before .before .high-bit .ensures, ← c .before .before .is-halt .ensures, c .before .if1 .taken, c .interrupt .ensures) (λ pages m. record { outcome = refl; memory = refl })
+
+panel-requires : tie.Need-panel-requires
+panel-requires c κs = search needs
+
+returns-2 : tie.Need-returns-2
+unfolding exec ioAct
+returns-2 c = rw (← c .before .before .before .before .high-bit .ensures, ← c .before .before .before .is-halt .ensures, c .before .before .if1 .left, c .before .if2 .taken) (c .panel .ensures)
+
+hand-over-requires : tie.Need-hand-over-requires
+hand-over-requires c κs = search needs
+
+returns-3 : tie.Need-returns-3
+unfolding exec ioAct
+returns-3 c = rw (← c .before .before .before .before .high-bit .ensures, ← c .before .before .before .is-halt .ensures, c .before .before .if1 .left, ne-eqb (c .before .before .before .before .before .args .select) 1 (c .before .if2 .left), c .hand-over .ensures) (λ pages m. record { outcome = refl; memory = refl })
+
+pub input-output-spec : {M : Type 1} → statement M
+input-output-spec =
+    tie.close
+    (tie.spec
+    high-bit-requires
+    is-halt-requires
+    interrupt-requires
+    returns
+    panel-requires
+    returns-2
+    hand-over-requires
+    returns-3)

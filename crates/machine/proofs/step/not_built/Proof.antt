@@ -1,0 +1,28 @@
+-- `step::not_built` meets its contract: each arm answers as the definition does there, by what its calls ensure. Assumes nothing.
+use mathlib.Core.Path.{refl}
+use Rattle.machine.specs.Acts.{exec}
+use borrow.Author.Needs.{needs}
+use Rattle.machine.proofs.step.not_built.Statement.{statement}
+use Rattle.machine.proofs.step.not_built.Tie as tie
+
+is-privileged-requires : tie.Need-is-privileged-requires
+is-privileged-requires c κs = search needs
+
+interrupt-requires : tie.Need-interrupt-requires
+interrupt-requires c κs = search needs
+
+returns : tie.Need-returns
+unfolding exec
+returns c = λ pages m. rw (rw (c .before .before .is-privileged .ensures) at (c .before .if1 .taken), c .interrupt .ensures) (record { outcome = refl; memory = refl })
+
+refuse-requires : tie.Need-refuse-requires
+refuse-requires c κs = search needs
+
+returns-2 : tie.Need-returns-2
+unfolding exec
+returns-2 c = λ pages m. rw (rw (c .before .before .is-privileged .ensures) at (c .before .if1 .left), c .refuse .ensures) (record { outcome = refl; memory = refl })
+
+pub not-built-spec : {M : Type 1} → statement M
+not-built-spec =
+    tie.close
+    (tie.spec is-privileged-requires interrupt-requires returns refuse-requires returns-2)

@@ -1,0 +1,11 @@
+pub mod codes;
+pub mod group;
+pub mod instructions;
+pub mod memory;
+pub mod moves;
+pub mod record;
+pub mod replies;
+pub mod run;
+pub mod step;
+pub mod strings;
+pub mod ways;

@@ -1,0 +1,172 @@
+// Memory reference: the address word that an instruction makes, the way it goes, and a trap cell.
+use crate::codes::Register;
+use crate::instructions::Operation;
+use crate::record::Registers;
+use crate::record::go_to;
+use crate::record::interrupt;
+use crate::record::set_register;
+use crate::replies::Reply;
+use crate::replies::Stepped;
+use crate::replies::completed;
+use crate::replies::refuse;
+use crate::ways::Source;
+use crate::ways::Taking;
+use crate::ways::Way;
+use crate::ways::at_chain;
+use maps::access::store_word;
+use maps::chains::Chain;
+use maps::pages::Map;
+use maps::pages::Place;
+use word::bits::weight_of;
+use word::sums::past;
+ghost use mathlib.Core.Path.{_≡_};
+ghost use Rattle.word.specs.Sums.{address};
+ghost use Rattle.machine.specs.Record.{withP, withTrap};
+ghost use Rattle.machine.specs.Acts.{Performs, Ends, exec, onChain, fin, save, follow};
+ghost use Rattle.machine.specs.Ways.{wayAct};
+ghost use Rattle.machine.specs.Rules.{memoryWay, memoryWord, trapWay};
+
+// The operation's way.
+pub fn memory_way(operation: Operation) -> Way
+    ensures { λ r. ⌜ r ≡ memoryWay operation ⌝ }
+{
+    match operation {
+        Operation::And => Way::Take(Taking::And, Map::Execute),
+        Operation::Jsb => Way::JumpSaving,
+        Operation::Xor => Way::Take(Taking::Xor, Map::Execute),
+        Operation::Jmp => Way::Jump,
+        Operation::Ior => Way::Take(Taking::Ior, Map::Execute),
+        Operation::Isz => Way::StepAndSkip,
+        Operation::Ada => Way::Take(Taking::Add(Register::A), Map::Execute),
+        Operation::Adb => Way::Take(Taking::Add(Register::B), Map::Execute),
+        Operation::Cpa => Way::Take(Taking::Compare(Register::A), Map::Execute),
+        Operation::Cpb => Way::Take(Taking::Compare(Register::B), Map::Execute),
+        Operation::Lda => Way::Take(Taking::Load(Register::A), Map::Execute),
+        Operation::Ldb => Way::Take(Taking::Load(Register::B), Map::Execute),
+        Operation::Sta => Way::Put(Source::Register(Register::A), Map::Execute),
+        Operation::Stb => Way::Put(Source::Register(Register::B), Map::Execute),
+    }
+}
+
+// The instruction's address as an address word.
+pub fn memory_word(indirect: bool, current: bool, offset: u16, p: u16) -> u16
+    ensures { λ r. ⌜ r ≡ memoryWord indirect current offset p ⌝ }
+{
+    if current {
+        weight_of(indirect) * 0o100000 + p / 1024 % 32 * 1024 + offset % 1024
+    } else {
+        weight_of(indirect) * 0o100000 + offset % 1024
+    }
+}
+
+// An instruction that goes its way at the address that its word leads to.
+pub fn memory_reference(
+    way: Way,
+    word: u16,
+    r: Registers,
+    pages: &[u16],
+    memory: &mut [u16],
+) -> Stepped
+    ensures { λ s. ⌜ Performs (now (pages .entry)) (follow word (λ m. wayAct way r m 1)) r (now (memory .entry)) s (now (memory .exit)) ⌝ }
+{
+    let chain = maps::chains::follow(pages, memory, r.wmap, word, r.a, r.b);
+    at_chain(chain, way, 1, r, pages, memory)
+}
+
+// P goes on elsewhere, and no trap waits.
+fn leave_trap(to: u16, r: Registers) -> Registers
+    ensures { λ s. ⌜ s ≡ withTrap (withP r to) 0 ⌝ }
+{
+    let mut s = r;
+    s.p = to;
+    s.trap = 0;
+    s
+}
+
+// The trap cell's JSB at its address: P itself is stored.
+fn trap_saving(at: u16, r: Registers, pages: &[u16], memory: &mut [u16]) -> Stepped
+    ensures { λ s. ⌜ Performs (now (pages .entry)) (save Map.Execute at (r .p) (fin (λ t. withTrap (withP t (address at 1)) 0))) r (now (memory .entry)) s (now (memory .exit)) ⌝ }
+{
+    let to = past(at, 1);
+    match store_word(pages, memory, r.wmap, Map::Execute, at, r.p) {
+        Place::A => completed(leave_trap(to, set_register(Register::A, r, r.p))),
+        Place::B => completed(leave_trap(to, set_register(Register::B, r, r.p))),
+        Place::Memory(_) => completed(leave_trap(to, r)),
+        Place::Closed => Stepped {
+            reply: Reply::Violation,
+            registers: interrupt(r),
+        },
+        Place::Absent(_) => Stepped {
+            reply: Reply::Absent,
+            registers: r,
+        },
+    }
+}
+
+fn trap_jump(word: u16, r: Registers, pages: &[u16], memory: &[u16]) -> Stepped
+    ensures { λ s. ⌜ Performs (now (pages .entry)) (trapWay Way.Jump r word) r (now (memory .entry)) s (now (memory .entry)) ⌝ }
+{
+    match maps::chains::follow(pages, memory, r.wmap, word, r.a, r.b) {
+        Chain::Address(at) => completed(leave_trap(at, r)),
+        Chain::Endless => Stepped {
+            reply: Reply::Endless,
+            registers: r,
+        },
+        Chain::Closed => Stepped {
+            reply: Reply::Violation,
+            registers: interrupt(r),
+        },
+        Chain::Absent(_) => Stepped {
+            reply: Reply::Absent,
+            registers: r,
+        },
+    }
+}
+
+fn trap_jump_saving(word: u16, r: Registers, pages: &[u16], memory: &mut [u16]) -> Stepped
+    ensures { λ s. ⌜ Performs (now (pages .entry)) (trapWay Way.JumpSaving r word) r (now (memory .entry)) s (now (memory .exit)) ⌝ }
+{
+    match maps::chains::follow(pages, memory, r.wmap, word, r.a, r.b) {
+        Chain::Address(at) => trap_saving(at, r, pages, memory),
+        Chain::Endless => Stepped {
+            reply: Reply::Endless,
+            registers: r,
+        },
+        Chain::Closed => Stepped {
+            reply: Reply::Violation,
+            registers: interrupt(r),
+        },
+        Chain::Absent(_) => Stepped {
+            reply: Reply::Absent,
+            registers: r,
+        },
+    }
+}
+
+// The word of a trap cell that is a memory reference: only JMP and JSB are carried out.
+pub fn trap_reference(
+    operation: Operation,
+    word: u16,
+    r: Registers,
+    pages: &[u16],
+    memory: &mut [u16],
+) -> Stepped
+    ensures { λ s. ⌜ Performs (now (pages .entry)) (trapWay (memoryWay operation) r word) r (now (memory .entry)) s (now (memory .exit)) ⌝ }
+{
+    match operation {
+        Operation::Jmp => trap_jump(word, r, pages, memory),
+        Operation::Jsb => trap_jump_saving(word, r, pages, memory),
+        Operation::And => refuse(Reply::TrapCell, r),
+        Operation::Xor => refuse(Reply::TrapCell, r),
+        Operation::Ior => refuse(Reply::TrapCell, r),
+        Operation::Isz => refuse(Reply::TrapCell, r),
+        Operation::Ada => refuse(Reply::TrapCell, r),
+        Operation::Adb => refuse(Reply::TrapCell, r),
+        Operation::Cpa => refuse(Reply::TrapCell, r),
+        Operation::Cpb => refuse(Reply::TrapCell, r),
+        Operation::Lda => refuse(Reply::TrapCell, r),
+        Operation::Ldb => refuse(Reply::TrapCell, r),
+        Operation::Sta => refuse(Reply::TrapCell, r),
+        Operation::Stb => refuse(Reply::TrapCell, r),
+    }
+}

@@ -1,0 +1,75 @@
+// A run of steps, with a budget.
+use crate::record::Registers;
+use crate::replies::Ran;
+use crate::replies::Reply;
+use crate::step::fetch;
+use crate::step::is_good_call;
+ghost use mathlib.Core.Path.{_≡_};
+ghost use mathlib.Core.Bool.{true};
+ghost use lib.Dec.{eqb};
+ghost use lib.ListN.{length};
+ghost use Rattle.machine.specs.Replies.{number};
+ghost use Rattle.machine.specs.Step.{goodCall, running, Leaves, Runs, Goes};
+
+fn number_of(reply: Reply) -> u32
+    ensures { λ n. ⌜ n ≡ number reply ⌝ }
+{
+    match reply {
+        Reply::Completed => 0,
+        Reply::Violation => 1,
+        Reply::InputOutput => 2,
+        Reply::Endless => 3,
+        Reply::Absent => 4,
+        Reply::InRegisters => 5,
+        Reply::NotBuilt => 6,
+        Reply::TrapCell => 7,
+        Reply::BadCall => 8,
+    }
+}
+
+// The steps of a good call: a step keeps the call good, so it is not tested again.
+fn go(budget: u32, r: Registers, pages: &[u16], memory: &mut [u16]) -> Ran
+    requires { ⌜ goodCall (length (now pages)) (length (now memory)) r ≡ true ⌝ }
+    ensures { λ s. ⌜ Goes (running (now (pages .entry)) budget r (now (memory .entry))) s (now (memory .exit)) ⌝ }
+{
+    let mut s = r;
+    let mut count: u32 = 0;
+    while count < budget {
+        let t = fetch(s, pages, memory);
+        let reply = t.reply;
+        let n = number_of(reply);
+        s = t.registers;
+        if n != 0 {
+            if n == 1 {
+                count += 1;
+            }
+            return Ran {
+                reply: reply,
+                count: count,
+                registers: s,
+            };
+        }
+        count += 1;
+    }
+    Ran {
+        reply: Reply::Completed,
+        count: count,
+        registers: s,
+    }
+}
+
+// A run of up to so many steps.
+pub fn run(budget: u32, r: Registers, pages: &mut [u16], memory: &mut [u16]) -> Ran
+    ensures { λ s. ⌜ Runs (now (pages .entry)) budget r (now (memory .entry)) s (now (pages .exit)) (now (memory .exit)) ⌝ }
+{
+    if is_good_call(pages.len(), memory.len(), r) {
+        if budget <= 1000000 {
+            return go(budget, r, pages, memory);
+        }
+    }
+    Ran {
+        reply: Reply::BadCall,
+        count: 0,
+        registers: r,
+    }
+}

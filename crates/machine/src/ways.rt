@@ -1,0 +1,420 @@
+// The ways in which an instruction works on the word at its address.
+use crate::codes::Index;
+use crate::codes::Register;
+use crate::record::Registers;
+use crate::record::go_ahead;
+use crate::record::go_skipping;
+use crate::record::go_to;
+use crate::record::index;
+use crate::record::interrupt;
+use crate::record::register;
+use crate::record::set_index;
+use crate::record::set_register;
+use crate::record::skipping;
+use crate::replies::Reply;
+use crate::replies::Stepped;
+use crate::replies::completed;
+use maps::access::Fetched;
+use maps::access::read_word;
+use maps::access::store_word;
+use maps::chains::Chain;
+use maps::pages::Map;
+use maps::pages::Place;
+use maps::pages::Purpose;
+use maps::pages::place_of;
+use word::products::Product;
+use word::products::Quotient;
+use word::products::divide;
+use word::products::multiply;
+use word::sums::add;
+use word::sums::increment;
+use word::sums::past;
+ghost use mathlib.Core.Path.{_≡_};
+ghost use mathlib.Core.Bool.{false};
+ghost use Rattle.machine.specs.Record.{withA, withB, withO};
+ghost use Rattle.machine.specs.Acts.{Performs, Ends, exec, onChain, load, save, fin};
+ghost use Rattle.machine.specs.Ways.{flagged, quotient, taken, stored, ahead, goOn, wayAct};
+
+// What is done with a word that is read.
+pub enum Taking {
+    And,
+    Xor,
+    Ior,
+    Add(Register),
+    Compare(Register),
+    Load(Register),
+    Multiply,
+    Divide,
+    LoadIndex(Index),
+    AddIndex(Index),
+}
+
+// What is stored.
+pub enum Source {
+    Register(Register),
+    Index(Index),
+}
+
+pub enum Way {
+    Take(Taking, Map),
+    Put(Source, Map),
+    // at the address plus X or Y
+    TakeIndexed(Register, Index),
+    PutIndexed(Register, Index),
+    LoadDouble,
+    StoreDouble,
+    StepAndSkip,
+    Jump,
+    JumpSaving,
+}
+
+// E and O by a sum: neither is cleared.
+pub fn set_flags(t: word::sums::Sum, r: Registers) -> Registers
+    ensures { λ s. ⌜ s ≡ flagged t r ⌝ }
+{
+    let mut s = r;
+    s.e = r.e | t.carry;
+    s.o = r.o | t.overflow;
+    s
+}
+
+fn take_quotient(q: Quotient, r: Registers) -> Registers
+    ensures { λ s. ⌜ s ≡ quotient q r ⌝ }
+{
+    let mut s = r;
+    match q {
+        Quotient::Divided(value, remainder) => {
+            s.a = value;
+            s.b = remainder;
+            s.o = false;
+        }
+        Quotient::Overflow => s.o = true,
+    }
+    s
+}
+
+fn take_product(t: Product, r: Registers) -> Registers
+    ensures { λ s. ⌜ s ≡ withO (withB (withA r (t .a)) (t .b)) false ⌝ }
+{
+    let mut s = r;
+    s.a = t.a;
+    s.b = t.b;
+    s.o = false;
+    s
+}
+
+// The registers after a word was read.
+pub fn apply(taking: Taking, w: u16, words: u16, r: Registers) -> Registers
+    ensures { λ s. ⌜ s ≡ taken taking w words r ⌝ }
+{
+    match taking {
+        Taking::And => go_ahead(words, set_register(Register::A, r, r.a & w)),
+        Taking::Xor => go_ahead(words, set_register(Register::A, r, r.a ^ w)),
+        Taking::Ior => go_ahead(words, set_register(Register::A, r, r.a | w)),
+        Taking::Add(g) => {
+            let t = add(register(g, r), w);
+            go_ahead(words, set_register(g, set_flags(t, r), t.word))
+        }
+        Taking::Compare(g) => go_skipping(words, register(g, r) != w, r),
+        Taking::Load(g) => go_ahead(words, set_register(g, r, w)),
+        Taking::Multiply => go_ahead(words, take_product(multiply(r.a, w), r)),
+        Taking::Divide => go_ahead(words, take_quotient(divide(r.b, r.a, w), r)),
+        Taking::LoadIndex(i) => go_ahead(words, set_index(i, r, w)),
+        Taking::AddIndex(i) => {
+            let t = add(index(i, r), w);
+            go_ahead(words, set_index(i, set_flags(t, r), t.word))
+        }
+    }
+}
+
+// The word at an address is read, and the registers follow.
+pub fn take(
+    taking: Taking,
+    map: Map,
+    at: u16,
+    words: u16,
+    r: Registers,
+    pages: &[u16],
+    memory: &[u16],
+) -> Stepped
+    ensures { λ s. ⌜ Performs (now (pages .entry)) (load map at (λ w. fin (taken taking w words))) r (now (memory .entry)) s (now (memory .entry)) ⌝ }
+{
+    match read_word(pages, memory, r.wmap, map, at, r.a, r.b) {
+        Fetched::Word(w) => Stepped {
+            reply: Reply::Completed,
+            registers: apply(taking, w, words, r),
+        },
+        Fetched::Closed => Stepped {
+            reply: Reply::Violation,
+            registers: interrupt(r),
+        },
+        Fetched::Absent(_) => Stepped {
+            reply: Reply::Absent,
+            registers: r,
+        },
+    }
+}
+
+// A word is stored at an address, and P goes on elsewhere. The present registers are s; trouble leaves r.
+fn put_from(
+    value: u16,
+    map: Map,
+    at: u16,
+    to: u16,
+    s: Registers,
+    r: Registers,
+    pages: &[u16],
+    memory: &mut [u16],
+) -> Stepped
+    ensures { λ t. ⌜ Ends r (now (memory .entry)) (exec (now (pages .entry)) (save map at value (goOn to)) s (now (memory .entry))) t (now (memory .exit)) ⌝ }
+{
+    match store_word(pages, memory, s.wmap, map, at, value) {
+        Place::A => completed(go_to(to, set_register(Register::A, s, value))),
+        Place::B => completed(go_to(to, set_register(Register::B, s, value))),
+        Place::Memory(_) => completed(go_to(to, s)),
+        Place::Closed => Stepped {
+            reply: Reply::Violation,
+            registers: interrupt(r),
+        },
+        Place::Absent(_) => Stepped {
+            reply: Reply::Absent,
+            registers: r,
+        },
+    }
+}
+
+pub fn put(
+    value: u16,
+    map: Map,
+    at: u16,
+    to: u16,
+    r: Registers,
+    pages: &[u16],
+    memory: &mut [u16],
+) -> Stepped
+    ensures { λ s. ⌜ Performs (now (pages .entry)) (save map at value (goOn to)) r (now (memory .entry)) s (now (memory .exit)) ⌝ }
+{
+    put_from(value, map, at, to, r, r, pages, memory)
+}
+
+// ISZ: read, then stored plus one; a skip where that is 0.
+pub fn step_and_skip(
+    at: u16,
+    words: u16,
+    r: Registers,
+    pages: &[u16],
+    memory: &mut [u16],
+) -> Stepped
+    ensures { λ s. ⌜ Performs (now (pages .entry)) (wayAct Way.StepAndSkip r at words) r (now (memory .entry)) s (now (memory .exit)) ⌝ }
+{
+    match read_word(pages, memory, r.wmap, Map::Execute, at, r.a, r.b) {
+        Fetched::Word(w) => {
+            let stepped = increment(w).word;
+            let to = skipping(r.p, words, stepped == 0);
+            put(stepped, Map::Execute, at, to, r, pages, memory)
+        }
+        Fetched::Closed => Stepped {
+            reply: Reply::Violation,
+            registers: interrupt(r),
+        },
+        Fetched::Absent(_) => Stepped {
+            reply: Reply::Absent,
+            registers: r,
+        },
+    }
+}
+
+// DLD: both words are read before A or B changes.
+pub fn load_double(at: u16, words: u16, r: Registers, pages: &[u16], memory: &[u16]) -> Stepped
+    ensures { λ s. ⌜ Performs (now (pages .entry)) (wayAct Way.LoadDouble r at words) r (now (memory .entry)) s (now (memory .entry)) ⌝ }
+{
+    match read_word(pages, memory, r.wmap, Map::Execute, at, r.a, r.b) {
+        Fetched::Word(v) => load_second(v, past(at, 1), words, r, pages, memory),
+        Fetched::Closed => Stepped {
+            reply: Reply::Violation,
+            registers: interrupt(r),
+        },
+        Fetched::Absent(_) => Stepped {
+            reply: Reply::Absent,
+            registers: r,
+        },
+    }
+}
+
+fn load_second(v: u16, at: u16, words: u16, r: Registers, pages: &[u16], memory: &[u16]) -> Stepped
+    ensures { λ s. ⌜ Performs (now (pages .entry)) (load Map.Execute at (λ w. fin (λ t. ahead words (withB (withA t v) w)))) r (now (memory .entry)) s (now (memory .entry)) ⌝ }
+{
+    match read_word(pages, memory, r.wmap, Map::Execute, at, r.a, r.b) {
+        Fetched::Word(w) => {
+            let first = set_register(Register::A, r, v);
+            completed(go_ahead(words, set_register(Register::B, first, w)))
+        }
+        Fetched::Closed => Stepped {
+            reply: Reply::Violation,
+            registers: interrupt(r),
+        },
+        Fetched::Absent(_) => Stepped {
+            reply: Reply::Absent,
+            registers: r,
+        },
+    }
+}
+
+// DST: the values at the start, both places tested before either store.
+pub fn store_double(at: u16, words: u16, r: Registers, pages: &[u16], memory: &mut [u16]) -> Stepped
+    ensures { λ s. ⌜ Performs (now (pages .entry)) (wayAct Way.StoreDouble r at words) r (now (memory .entry)) s (now (memory .exit)) ⌝ }
+{
+    let length = memory.len();
+    let second = past(at, 1);
+    let to = past(r.p, words);
+    match place_of(pages, r.wmap, Map::Execute, Purpose::Store, at, length) {
+        Place::A => {
+            let s = set_register(Register::A, r, r.a);
+            put_from(r.b, Map::Execute, second, to, s, r, pages, memory)
+        }
+        Place::B => {
+            let s = set_register(Register::B, r, r.a);
+            put_from(r.b, Map::Execute, second, to, s, r, pages, memory)
+        }
+        Place::Memory(i) => match place_of(
+            pages,
+            r.wmap,
+            Map::Execute,
+            Purpose::Store,
+            second,
+            length,
+        ) {
+            Place::A => {
+                memory[i] = r.a;
+                completed(go_to(to, set_register(Register::A, r, r.b)))
+            }
+            Place::B => {
+                memory[i] = r.a;
+                completed(go_to(to, set_register(Register::B, r, r.b)))
+            }
+            Place::Memory(j) => {
+                memory[i] = r.a;
+                memory[j] = r.b;
+                completed(go_to(to, r))
+            }
+            Place::Closed => Stepped {
+                reply: Reply::Violation,
+                registers: interrupt(r),
+            },
+            Place::Absent(_) => Stepped {
+                reply: Reply::Absent,
+                registers: r,
+            },
+        },
+        Place::Closed => Stepped {
+            reply: Reply::Violation,
+            registers: interrupt(r),
+        },
+        Place::Absent(_) => Stepped {
+            reply: Reply::Absent,
+            registers: r,
+        },
+    }
+}
+
+pub fn value_of(source: Source, r: Registers) -> u16
+    ensures { λ v. ⌜ v ≡ stored source r ⌝ }
+{
+    match source {
+        Source::Register(g) => register(g, r),
+        Source::Index(i) => index(i, r),
+    }
+}
+
+// What is done at an address, by an instruction of so many words.
+pub fn at_address(
+    way: Way,
+    at: u16,
+    words: u16,
+    r: Registers,
+    pages: &[u16],
+    memory: &mut [u16],
+) -> Stepped
+    ensures { λ s. ⌜ Performs (now (pages .entry)) (wayAct way r at words) r (now (memory .entry)) s (now (memory .exit)) ⌝ }
+{
+    match way {
+        Way::Take(taking, map) => take(taking, map, at, words, r, pages, memory),
+        Way::Put(source, map) => {
+            put(
+                value_of(source, r),
+                map,
+                at,
+                past(r.p, words),
+                r,
+                pages,
+                memory,
+            )
+        }
+        Way::TakeIndexed(g, i) => {
+            take(
+                Taking::Load(g),
+                Map::Execute,
+                past(at, index(i, r)),
+                words,
+                r,
+                pages,
+                memory,
+            )
+        }
+        Way::PutIndexed(g, i) => {
+            let place = past(at, index(i, r));
+            put(
+                register(g, r),
+                Map::Execute,
+                place,
+                past(r.p, words),
+                r,
+                pages,
+                memory,
+            )
+        }
+        Way::LoadDouble => load_double(at, words, r, pages, memory),
+        Way::StoreDouble => store_double(at, words, r, pages, memory),
+        Way::StepAndSkip => step_and_skip(at, words, r, pages, memory),
+        Way::Jump => completed(go_to(at, r)),
+        Way::JumpSaving => {
+            put(
+                past(r.p, words),
+                Map::Execute,
+                at,
+                past(at, 1),
+                r,
+                pages,
+                memory,
+            )
+        }
+    }
+}
+
+// The same at the address that a chain led to.
+pub fn at_chain(
+    chain: Chain,
+    way: Way,
+    words: u16,
+    r: Registers,
+    pages: &[u16],
+    memory: &mut [u16],
+) -> Stepped
+    ensures { λ s. ⌜ Ends r (now (memory .entry)) (onChain chain (λ at. exec (now (pages .entry)) (wayAct way r at words) r (now (memory .entry)))) s (now (memory .exit)) ⌝ }
+{
+    match chain {
+        Chain::Address(at) => at_address(way, at, words, r, pages, memory),
+        Chain::Endless => Stepped {
+            reply: Reply::Endless,
+            registers: r,
+        },
+        Chain::Closed => Stepped {
+            reply: Reply::Violation,
+            registers: interrupt(r),
+        },
+        Chain::Absent(_) => Stepped {
+            reply: Reply::Absent,
+            registers: r,
+        },
+    }
+}
