@@ -1,0 +1,122 @@
+-- Every row of the table meets the statement.
+--     passes, every      a row's test, and the test of all rows
+--     meets              what a test that passes shows
+--     computed           antt computes the test of all rows
+--     holds              the theorem: each row, by its place
+-- Assumes nothing.
+use Prim.Native.Nat.{ℕ, zero, suc, _<_}
+use native.Mathlib.Nat.{le-of-suc-le-suc, not-suc-le-zero}
+use mathlib.Core.Path.{_≡_, refl, _∙_, sym, ap}
+use mathlib.Core.Bool.{Bool, true, false}
+use mathlib.Core.List.{List, [], _∷_}
+use lib.Dec.{T, eqb, eqb→eq}
+use lib.ListN.{length, getD}
+use Rattle.word.specs.Words.{weight}
+use Rattle.word.specs.Sums.{sum}
+use Rattle.word.specs.Long.{moved, loses}
+use Rattle.word.specs.Products.{multiplied, divided}
+use Rattle.maps.specs.Pages.{isOpen, presence, spot, place}
+use Rattle.maps.specs.Access.{fetched}
+use Rattle.maps.specs.Chains.{chased, chain}
+use Rattle.machine.specs.Replies.{number}
+use Rattle.machine.specs.Codes.{rows, findWord}
+use Rattle.machine.specs.Instructions.{memoryReference, shiftRotate, alterSkip, inputOutput, extended, reading}
+use Rattle.machine.specs.Group.{shiftRotated, alterSkips, alterEnded, alterSkipped, longRotated}
+use Rattle.machine.specs.Strings.{touches, opensAll, presentAll, moving}
+use Rattle.machine.specs.Acts.{Result, exec, answer, left}
+use Rattle.machine.specs.Step.{stepped}
+use Rattle.machine.specs.declared.record.Registers.{Registers}
+use Rattle.cases.specs.Table.{Case, Meets, holding, result, table, c5}
+
+abbrev numbers : Registers → List ℕ
+numbers r =
+    r .a ∷ r .b ∷ r .x ∷ r .y ∷ r .p ∷ weight (r .e) ∷ weight (r .o) ∷ r .wmap ∷ r .imap ∷ r .violation ∷ r .interrupt ∷ r .trap
+    ∷ r .switches ∷ r .lights ∷ []
+
+abbrev registersOf : List ℕ → Registers
+registersOf l =
+    record { a = getD l 0 0; b = getD l 1 0; x = getD l 2 0; y = getD l 3 0; p = getD l 4 0; e = eqb (getD l 5 0) 1; o = eqb (getD l 6 0) 1; wmap = getD l 7 0; imap = getD l 8 0; violation = getD l 9 0; interrupt = getD l 10 0; trap = getD l 11 0; switches = getD l 12 0; lights = getD l 13 0 }
+
+flag : (b : Bool) → eqb (weight b) 1 ≡ b
+flag true = refl
+flag false = refl
+
+again : (r : Registers) → registersOf (numbers r) ≡ r
+again r = rw (flag (r .e), flag (r .o)) refl
+
+abbrev both : Bool → Bool → Bool
+both true b = b
+both false b = false
+
+first-of : (a b : Bool) → T (both a b) → T a
+first-of true b t = tt
+first-of false b t = t
+
+second-of : (a b : Bool) → T (both a b) → T b
+second-of true b t = t
+second-of false b t = absurd t
+
+abbrev same : List ℕ → List ℕ → Bool
+same [] [] = true
+same [] (y ∷ ys) = false
+same (x ∷ xs) [] = false
+same (x ∷ xs) (y ∷ ys) = both (eqb x y) (same xs ys)
+
+equal : (xs ys : List ℕ) → T (same xs ys) → xs ≡ ys
+equal [] [] t = refl
+equal [] (y ∷ ys) t = absurd t
+equal (x ∷ xs) [] t = absurd t
+equal (x ∷ xs) (y ∷ ys) t =
+    λ i. eqb→eq x y (first-of (eqb x y) (same xs ys) t) i ∷ equal xs ys (second-of (eqb x y) (same xs ys) t) i
+
+abbrev sameReply : Case → Result → Bool
+sameReply c s = eqb (number (answer (c .start) s .reply)) (c .reply)
+
+abbrev sameRegisters : Case → Result → Bool
+sameRegisters c s = same (numbers (answer (c .start) s .registers)) (numbers (c .registers))
+
+abbrev sameMemory : Case → Result → Bool
+sameMemory c s = same (left (holding (c .words)) s) (holding (c .later))
+
+abbrev agrees : Case → Result → Bool
+agrees c s = both (sameReply c s) (both (sameRegisters c s) (sameMemory c s))
+
+abbrev pub passes : Case → Bool
+passes c = agrees c (result c)
+
+abbrev pub every : List Case → Bool
+every [] = true
+every (c ∷ cs) = both (passes c) (every cs)
+
+equal-registers : (r s : Registers) → T (same (numbers r) (numbers s)) → r ≡ s
+equal-registers r s t =
+    let e : numbers r ≡ numbers s = equal (numbers r) (numbers s) t in
+    sym (again r) ∙ ap registersOf {x = numbers r} {y = numbers s} e ∙ again s
+
+agreeing : (c : Case) (s : Result) → T (agrees c s)
+    → (number (answer (c .start) s .reply) ≡ c .reply) × (answer (c .start) s .registers ≡ c .registers)
+    × (left (holding (c .words)) s ≡ holding (c .later))
+agreeing c s t =
+    let more : T (both (sameRegisters c s) (sameMemory c s)) = second-of (sameReply c s) (both (sameRegisters c s) (sameMemory c s)) t in (
+      eqb→eq (number (answer (c .start) s .reply)) (c .reply) (first-of (sameReply c s) (both (sameRegisters c s) (sameMemory c s)) t),
+      equal-registers (answer (c .start) s .registers) (c .registers) (first-of (sameRegisters c s) (sameMemory c s) more),
+      equal (left (holding (c .words)) s) (holding (c .later)) (second-of (sameRegisters c s) (sameMemory c s) more),
+    )
+
+meets : (c : Case) → T (passes c) → Meets c
+meets c t =
+    let e = agreeing c (result c) t in
+    record { replied = e .0; became = e .1; left-as = e .2 }
+
+each : (cs : List Case) → T (every cs) → (i : ℕ) → i < length cs → Meets (getD cs i c5)
+each [] t i h = absurd (not-suc-le-zero h)
+each (c ∷ cs) t zero h = meets c (first-of (passes c) (every cs) t)
+each (c ∷ cs) t (suc i) h = each cs (second-of (passes c) (every cs) t) i (le-of-suc-le-suc h)
+
+computed : T (every table)
+unfolding table stepped exec reading memoryReference shiftRotate alterSkip inputOutput extended findWord rows shiftRotated alterSkips alterEnded alterSkipped longRotated moved loses multiplied divided sum touches opensAll presentAll moving fetched place isOpen presence spot chain chased
+computed = tt
+
+-- the rows are 17, and past them stands C5
+pub holds : (i : ℕ) → i < length table → Meets (getD table i c5)
+holds i h = each table computed i h

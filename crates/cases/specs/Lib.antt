@@ -1,0 +1,2 @@
+-- The worked cases of 01. Assumes nothing.
+pub mod Table

@@ -1,0 +1,2 @@
+-- Laws of a listing that belong to no one function. Assumes nothing.
+pub mod Tables

@@ -1,0 +1,2 @@
+-- What a listing means. Assumes nothing.
+pub mod Image

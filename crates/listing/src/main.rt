@@ -1,0 +1,4 @@
+// The listing of the image on standard input.
+fn main() {
+    list::show::list_input();
+}
