@@ -1,0 +1,124 @@
+-- The hypotheses can be met, and each is needed.
+--     pages, program, memory, start     two pages of memory: a job runs on the first, the second is closed to reading and holds any x
+--     agree, both, example              the memories of any x and y agree; the theorem applied to them
+--     ended                             the run by computation: it stores, compares, counts and ends in a violation
+--     unprotected to after-interrupt    where a hypothesis fails, two runs differ
+-- Assumes nothing.
+use Prim.Native.Nat.{ℕ, zero, suc, _<_, _+_, _*_, _/_}
+use native.Mathlib.Omega.{arith}
+use mathlib.Core.Path.{_≡_, refl, sym, _∙_}
+use mathlib.Core.Bool.{false}
+use mathlib.Core.List.{List, _∷_, _++_}
+use lib.ListN.{getD, replicate, getD-replicate, List·getD-append}
+use Rattle.word.specs.Sums.{sum}
+use Rattle.maps.specs.Pages.{physicalPage, readProtected, mapNumber, isOpen, presence, spot, place}
+use Rattle.maps.specs.Access.{fetched}
+use Rattle.maps.specs.Chains.{chased, chain}
+use Rattle.maps.specs.Open.{OpenToRead, Agree}
+use Rattle.maps.specs.declared.pages.Map.{Map}
+use Rattle.machine.specs.Record.{withA, withP, interrupted}
+use Rattle.machine.specs.Acts.{exec}
+use Rattle.machine.specs.Instructions.{memoryReference, reading}
+use Rattle.machine.specs.Step.{stepped, ending, running, ran}
+use Rattle.machine.specs.declared.record.Registers.{Registers}
+use Rattle.machine.specs.declared.replies.Reply.{Reply}
+use Rattle.apart.specs.Alike.{Alike, Apart}
+use Rattle.apart.specs.Apart.{run-apart}
+
+-- register 1 of map 0 names the second page of memory, every other the first
+abbrev pages : ℕ → List ℕ
+pages second = 0 ∷ second ∷ replicate 1022 0
+
+-- closed to reading and open to storing
+abbrev shut : List ℕ
+shut = pages 0o100001
+
+-- LDA 100; STA 103,I; CPA 101; ISZ 102; LDB 104,I; at 7, the trap cell, JMP 6; and words 100 to 104, 102 being n
+abbrev program : ℕ → List ℕ
+program n =
+    0 ∷ 0 ∷ 0o060100 ∷ 0o170103 ∷ 0o050101 ∷ 0o034102 ∷ 0o164104 ∷ 0o024006
+    ∷ (replicate 56 0 ++ (5 ∷ 5 ∷ n ∷ 0o2000 ∷ 0o2001 ∷ replicate 955 0))
+
+abbrev memory : ℕ → List ℕ
+memory x = program 1 ++ replicate 1024 x
+
+-- all three maps are map 0
+abbrev start : ℕ → Registers
+start wmap =
+    record { a = 0; b = 0; x = 0; y = 0; p = 2; e = false; o = false; wmap = wmap; imap = 0; violation = 0; interrupt = 0; trap = 0; switches = 0; lights = 0 }
+
+abbrev protected : Registers
+protected = start 0o100000
+
+---- The hypotheses can be met
+
+named : (n : ℕ) → n < 32 → readProtected (getD shut n 0) ≡ false → physicalPage (getD shut n 0) ≡ 0
+named zero l e = refl
+named (suc zero) l e = let z : _≡_ {A = ℕ} 0 1 = cc in absurd (omega arith)
+named (suc (suc n)) l e = rw (getD-replicate {A = ℕ} 1022 n 0 0 (omega arith))
+
+module _ (wmap : ℕ) (zeros : (map : Map) → mapNumber map wmap ≡ 0) where
+  only-first : (page : ℕ) → OpenToRead shut wmap page → page ≡ 0
+  only-first page o =
+      let e : mapNumber (o .map) wmap * 32 + o .logical ≡ o .logical = rw (zeros (o .map)) (omega arith) in
+      sym (rw e at (o .names)) ∙ named (o .logical) (o .within) (rw e at (o .leaves))
+
+  -- only words of the second page differ
+  agree : (x y : ℕ) → Agree shut wmap (memory x) (memory y)
+  agree x y =
+      record {
+        lengths = refl;
+        words = λ index o.
+            let f = only-first (index / 1024) o in
+            List·getD-append (program 1) (replicate 1024 x) 0 index (omega arith)
+            ∙ sym (List·getD-append (program 1) (replicate 1024 y) 0 index (omega arith));
+      }
+
+zeros-on : (map : Map) → mapNumber map 0o100000 ≡ 0
+zeros-on Map.Execute = refl
+zeros-on Map.Data1 = refl
+zeros-on Map.Data2 = refl
+
+zeros-off : (map : Map) → mapNumber map 0 ≡ 0
+zeros-off Map.Execute = refl
+zeros-off Map.Data1 = refl
+zeros-off Map.Data2 = refl
+
+pub both : (x y : ℕ) → Alike shut shut protected protected (memory x) (memory y)
+both x y = record { registers = refl; maps = refl; protected = refl; opens = agree 0o100000 zeros-on x y }
+
+pub example : (x y budget : ℕ) → Apart shut 0o100000 (memory x) (memory y)
+    (ran shut budget protected (memory x) .ran) (ran shut budget protected (memory y) .ran)
+    (ran shut budget protected (memory x) .memory) (ran shut budget protected (memory y) .memory)
+example x y budget = run-apart shut shut protected protected (memory x) (memory y) (both x y) budget
+
+-- the same word is stored on the closed page in both, and the violation is at 6
+pub ended : (x : ℕ) → ran shut 10 protected (memory x)
+    ≡ ending Reply.Violation 5 (interrupted (withP (withA protected 5) 6)) (program 2 ++ (5 ∷ replicate 1023 x))
+unfolding ran running stepped exec reading memoryReference fetched chain chased place isOpen presence spot sum
+ended x = refl
+
+---- Each is needed
+
+-- protection off: the memories agree, and B ends with what the closed page holds
+pub unprotected : (x y : ℕ) → Agree shut 0 (memory x) (memory y) × (ran shut 5 (start 0) (memory x) .ran .registers .b ≡ x)
+unfolding ran running stepped exec reading memoryReference fetched chain chased place isOpen presence spot sum
+unprotected x y = (agree 0 zeros-off x y, refl)
+
+-- a page open to reading that differs
+pub open-differs : (x : ℕ) → ran (pages 1) 5 protected (memory x) .ran .registers .b ≡ x
+unfolding ran running stepped exec reading memoryReference fetched chain chased place isOpen presence spot sum
+open-differs x = refl
+
+-- another page register, over one memory
+pub another-register : (x : ℕ)
+    → (ran shut 5 protected (memory x) .ran .reply ≡ Reply.Violation) × (ran (pages 1) 5 protected (memory x) .ran .reply ≡ Reply.Completed)
+unfolding ran running stepped exec reading memoryReference fetched chain chased place isOpen presence spot sum
+another-register x = (refl, refl)
+
+-- A trap that waits: with protection on the call is bad. It waits with protection off, as the run `ended` left it: two steps
+-- more, and B holds what the closed page holds.
+pub after-interrupt : (x : ℕ)
+    → ran shut 2 (interrupted (withP (withA protected 5) 6)) (program 2 ++ (5 ∷ replicate 1023 x)) .ran .registers .b ≡ x
+unfolding ran running stepped exec reading memoryReference fetched chain chased place isOpen presence spot sum
+after-interrupt x = refl

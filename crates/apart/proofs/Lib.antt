@@ -1,0 +1,2 @@
+-- Examples of the theorems, by computation.
+pub mod Examples
