@@ -18,7 +18,7 @@ use Rattle.maps.specs.Open.{OpenToRead, Agree}
 use Rattle.maps.specs.declared.pages.Map.{Map}
 use Rattle.machine.specs.Record.{withA, withP, interrupted}
 use Rattle.machine.specs.Acts.{exec}
-use Rattle.machine.specs.Instructions.{memoryReference, reading}
+use Rattle.code.specs.Instructions.{memoryReference, reading}
 use Rattle.machine.specs.Step.{stepped, ending, running, ran}
 use Rattle.machine.specs.declared.record.Registers.{Registers}
 use Rattle.machine.specs.declared.replies.Reply.{Reply}

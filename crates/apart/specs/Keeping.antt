@@ -32,24 +32,24 @@ use Rattle.machine.specs.Acts.{Act, fin, stop, violate, load, save, follow, ope
 use Rattle.machine.specs.Ways.{flagged, quotient, taken, wayAct}
 use Rattle.machine.specs.Group.{shiftRotated, alterEnded, alterSkipped, longRotated, exchanged, picked, panelAct, isHalt, ioAct}
 use Rattle.machine.specs.Strings.{wordAt, along, valueOf, purposeOf, saving, touches, opensAll, presentAll, moving, moved, orderOf, onOrder, loadElement, compared, comparing, byteLoaded, byteStored, counted, noneToDo, moveAct, compareAct, masked, maskAct}
-use Rattle.machine.specs.Codes.{privileged}
-use Rattle.machine.specs.Instructions.{reading}
+use Rattle.code.specs.Codes.{privileged}
+use Rattle.code.specs.Instructions.{reading}
 use Rattle.machine.specs.Rules.{memoryWay, arithmeticWay, crossWay, atOperand, transferAct, indexingAct, bytesAct, bitsMask, wordsAct, extendedAct, rule, trapWay, trapRule, stepAct}
 use Rattle.machine.specs.Replies.{number}
 use Rattle.machine.specs.Step.{goodCall, stepped}
 use Rattle.machine.specs.declared.record.Registers.{Registers}
 use Rattle.machine.specs.declared.replies.Reply.{Reply}
-use Rattle.machine.specs.declared.codes.Register.{Register}
-use Rattle.machine.specs.declared.codes.Index.{Index}
-use Rattle.machine.specs.declared.codes.Extended.{Extended}
-use Rattle.machine.specs.declared.codes.Transfer.{Transfer}
-use Rattle.machine.specs.declared.codes.Indexing.{Indexing}
-use Rattle.machine.specs.declared.codes.Bytes.{Bytes}
-use Rattle.machine.specs.declared.codes.Words.{Words}
-use Rattle.machine.specs.declared.instructions.ShiftRotate.{ShiftRotate}
-use Rattle.machine.specs.declared.instructions.AlterSkip.{AlterSkip}
-use Rattle.machine.specs.declared.instructions.IoOperation.{IoOperation}
-use Rattle.machine.specs.declared.instructions.Instruction.{Instruction}
+use Rattle.code.specs.declared.codes.Register.{Register}
+use Rattle.code.specs.declared.codes.Index.{Index}
+use Rattle.code.specs.declared.codes.Extended.{Extended}
+use Rattle.code.specs.declared.codes.Transfer.{Transfer}
+use Rattle.code.specs.declared.codes.Indexing.{Indexing}
+use Rattle.code.specs.declared.codes.Bytes.{Bytes}
+use Rattle.code.specs.declared.codes.Words.{Words}
+use Rattle.code.specs.declared.instructions.ShiftRotate.{ShiftRotate}
+use Rattle.code.specs.declared.instructions.AlterSkip.{AlterSkip}
+use Rattle.code.specs.declared.instructions.IoOperation.{IoOperation}
+use Rattle.code.specs.declared.instructions.Instruction.{Instruction}
 use Rattle.machine.specs.declared.ways.Taking.{Taking}
 use Rattle.machine.specs.declared.ways.Source.{Source}
 use Rattle.machine.specs.declared.ways.Way.{Way}

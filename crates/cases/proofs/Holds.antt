@@ -19,8 +19,8 @@ use Rattle.maps.specs.Pages.{isOpen, presence, spot, place}
 use Rattle.maps.specs.Access.{fetched}
 use Rattle.maps.specs.Chains.{chased, chain}
 use Rattle.machine.specs.Replies.{number}
-use Rattle.machine.specs.Codes.{rows, findWord}
-use Rattle.machine.specs.Instructions.{memoryReference, shiftRotate, alterSkip, inputOutput, extended, reading}
+use Rattle.code.specs.Codes.{rows, findWord}
+use Rattle.code.specs.Instructions.{memoryReference, shiftRotate, alterSkip, inputOutput, extended, reading}
 use Rattle.machine.specs.Group.{shiftRotated, alterSkips, alterEnded, alterSkipped, longRotated}
 use Rattle.machine.specs.Strings.{touches, opensAll, presentAll, moving}
 use Rattle.machine.specs.Acts.{Result, exec, answer, left}

@@ -13,7 +13,7 @@ use mathlib.Core.Bool.{Bool, true, false, _&&_}
 use lib.Dec.{eqb, leb, leb→le}
 use lib.ListN.{length, set, take, length-set, length-append}
 use lib.Seq.{take-suc-set, take-all, take-append-le}
-use Rattle.machine.proofs.Truth.{is-true, never}
+use Rattle.code.proofs.Truth.{is-true, never}
 use Rattle.list.specs.Image.{tabulated, isWhole}
 
 pub record Filled (f : ℕ → ℕ) (size : ℕ) (l : List ℕ) (i : ℕ) : Type 0 where

@@ -7,10 +7,10 @@ use Rattle.machine.specs.Record.{withA, withE}
 use Rattle.machine.specs.Ways.{ahead}
 use Rattle.machine.specs.Group.{shiftRotated, alterSkips, alterEnded, alterSkipped}
 use Rattle.machine.specs.declared.record.Registers.{Registers}
-use Rattle.machine.specs.declared.codes.Register.{Register}
-use Rattle.machine.specs.declared.instructions.Alter.{Alter}
-use Rattle.machine.specs.declared.instructions.AlterSkip.{AlterSkip}
-use Rattle.machine.specs.declared.instructions.ShiftRotate.{ShiftRotate}
+use Rattle.code.specs.declared.codes.Register.{Register}
+use Rattle.code.specs.declared.instructions.Alter.{Alter}
+use Rattle.code.specs.declared.instructions.AlterSkip.{AlterSkip}
+use Rattle.code.specs.declared.instructions.ShiftRotate.{ShiftRotate}
 
 -- 002031: SSA, SLA, RSS
 abbrev pub pair : AlterSkip

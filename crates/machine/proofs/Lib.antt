@@ -1,13 +1,4 @@
 -- Laws of the machine that belong to no one function.
---     Truth           truth values
---     Digits          numbers from their parts
---     Search          the search of a table
---     Table           each kind is found in the table, and has its own number
---     Choices         the fields that are a choice, and their numbers
---     Fields          the groups that their leading bits decide, written and read again
---     Rows            the extended group, written and read again
---     Again           all groups together
---     Exact           reading and writing are inverse: the theorems
 --     Operands        how a program goes on past its reading parts
 --     Bytes           how a byte store ends, by its place
 --     Comparisons     one turn of a comparison
@@ -21,15 +12,6 @@
 --     CasesGroup      cases of 01 without memory, by computation
 --     CasesStrings    C13, by computation
 --     Tight           each promise fixes its outcome
-pub mod Truth
-pub mod Digits
-pub mod Search
-pub mod Table
-pub mod Choices
-pub mod Fields
-pub mod Rows
-pub mod Again
-pub mod Exact
 pub mod Operands
 pub mod Bytes
 pub mod Comparisons

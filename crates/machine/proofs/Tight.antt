@@ -3,8 +3,8 @@
 --     OnePages       the same with the later page registers, of step and run
 --     ends-tight     two outcomes of one program's end are equal
 --     gives-tight    two answers of the reading part of a program are equal: a program may go on with the value, and may end in two ways
--- A function that lends nothing to be written has `OneResult` of the word layer. In the order of src/: replies, record, codes,
--- instructions, group, ways, memory, strings, moves, step, run.
+-- A function that lends nothing to be written has `OneResult` of the word layer. In the order of src/: replies, record, group,
+-- ways, memory, strings, moves, step, run.
 -- Assumes nothing.
 use Prim.Native.Nat.{ℕ}
 use native.Mathlib.Omega.{arith}
@@ -46,18 +46,6 @@ use Rattle.machine.proofs.record.go_skipping.Kinds as go-skipping
 use Rattle.machine.proofs.record.go_skipping.Reads as go-skipping-reads
 use Rattle.machine.proofs.record.interrupt.Kinds as interrupt
 use Rattle.machine.proofs.record.interrupt.Reads as interrupt-reads
-use Rattle.machine.proofs.codes.find_word.Kinds as find-word
-use Rattle.machine.proofs.codes.find_word.Reads as find-word-reads
-use Rattle.machine.proofs.codes.find_kind.Kinds as find-kind
-use Rattle.machine.proofs.codes.find_kind.Reads as find-kind-reads
-use Rattle.machine.proofs.codes.extended_length.Kinds as extended-length
-use Rattle.machine.proofs.codes.extended_length.Reads as extended-length-reads
-use Rattle.machine.proofs.codes.is_privileged.Kinds as is-privileged
-use Rattle.machine.proofs.codes.is_privileged.Reads as is-privileged-reads
-use Rattle.machine.proofs.instructions.read_instruction.Kinds as read-instruction
-use Rattle.machine.proofs.instructions.read_instruction.Reads as read-instruction-reads
-use Rattle.machine.proofs.instructions.write_instruction.Kinds as write-instruction
-use Rattle.machine.proofs.instructions.write_instruction.Reads as write-instruction-reads
 use Rattle.machine.proofs.group.shift_rotate.Kinds as shift-rotate
 use Rattle.machine.proofs.group.shift_rotate.Reads as shift-rotate-reads
 use Rattle.machine.proofs.group.alter_skip.Kinds as alter-skip
@@ -213,24 +201,6 @@ go-skipping-tight κs a x y s t p q = p ∙ sym q
 
 pub interrupt-tight : OneResult 0 interrupt.ps interrupt.r interrupt-reads.Post
 interrupt-tight κs a x y s t p q = p ∙ sym q
-
-pub find-word-tight : OneResult 0 find-word.ps find-word.r find-word-reads.Post
-find-word-tight κs a x y s t p q = p ∙ sym q
-
-pub find-kind-tight : OneResult 0 find-kind.ps find-kind.r find-kind-reads.Post
-find-kind-tight κs a x y s t p q = p ∙ sym q
-
-pub extended-length-tight : OneResult 0 extended-length.ps extended-length.r extended-length-reads.Post
-extended-length-tight κs a x y s t p q = p ∙ sym q
-
-pub is-privileged-tight : OneResult 0 is-privileged.ps is-privileged.r is-privileged-reads.Post
-is-privileged-tight κs a x y s t p q = p ∙ sym q
-
-pub read-instruction-tight : OneResult 0 read-instruction.ps read-instruction.r read-instruction-reads.Post
-read-instruction-tight κs a x y s t p q = p ∙ sym q
-
-pub write-instruction-tight : OneResult 0 write-instruction.ps write-instruction.r write-instruction-reads.Post
-write-instruction-tight κs a x y s t p q = p ∙ sym q
 
 pub shift-rotate-tight : OneResult 0 shift-rotate.ps shift-rotate.r shift-rotate-reads.Post
 shift-rotate-tight κs a x y s t p q = p ∙ sym q

@@ -32,8 +32,8 @@ use Rattle.maps.specs.declared.pages.Place.{Place}
 use Rattle.maps.specs.declared.pages.Presence.{Presence}
 use Rattle.maps.specs.declared.access.Fetched.{Fetched}
 use Rattle.maps.specs.declared.chains.Chain.{Chain}
-use Rattle.machine.specs.Codes.{privileged}
-use Rattle.machine.specs.Instructions.{reading}
+use Rattle.code.specs.Codes.{privileged}
+use Rattle.code.specs.Instructions.{reading}
 use Rattle.machine.specs.Record.{withA, withB, withP, withTrap, withLights, inRegister, withRegister, inIndex, withIndex, valid, interrupted}
 use Rattle.machine.specs.Acts.{Act, fin, stop, violate, load, save, follow, opened, present}
 use Rattle.machine.specs.Acts.{Result, done, violated, refused, onFetched, onChain, onPlace, onOpen, onPresence, exec, answer, left}
@@ -46,24 +46,24 @@ use Rattle.machine.specs.Rules.{rule, trapWay, trapRule, stepAct}
 use Rattle.machine.specs.Step.{wholePages, goodCall, stepped}
 use Rattle.machine.specs.declared.record.Registers.{Registers}
 use Rattle.machine.specs.declared.replies.Reply.{Reply}
-use Rattle.machine.specs.declared.codes.Register.{Register}
-use Rattle.machine.specs.declared.codes.Register.the-variants.{A, B}
-use Rattle.machine.specs.declared.codes.Index.{Index}
-use Rattle.machine.specs.declared.codes.Index.the-variants.{X, Y}
-use Rattle.machine.specs.declared.codes.Extended.{Extended}
-use Rattle.machine.specs.declared.codes.Transfer.{Transfer}
-use Rattle.machine.specs.declared.codes.Transfer.the-variants.{Sax, Cax, Lax, Cxa, Xax}
-use Rattle.machine.specs.declared.codes.Indexing.{Indexing}
-use Rattle.machine.specs.declared.codes.Indexing.the-variants.{Stx, Ldx, Adx, Isx, Dsx}
-use Rattle.machine.specs.declared.codes.Bytes.{Bytes}
-use Rattle.machine.specs.declared.codes.Bytes.the-variants.{Lbt, Sbt, Mbt, Cbt}
-use Rattle.machine.specs.declared.codes.Words.{Words}
-use Rattle.machine.specs.declared.codes.Words.the-variants.{Cmw, Mvw}
-use Rattle.machine.specs.declared.instructions.ShiftRotate.{ShiftRotate}
-use Rattle.machine.specs.declared.instructions.AlterSkip.{AlterSkip}
-use Rattle.machine.specs.declared.instructions.IoOperation.{IoOperation}
-use Rattle.machine.specs.declared.instructions.IoOperation.the-variants.{Hlt, Flag, Sfc, Sfs, Mia, Lia, Ota, Control}
-use Rattle.machine.specs.declared.instructions.Instruction.{Instruction}
+use Rattle.code.specs.declared.codes.Register.{Register}
+use Rattle.code.specs.declared.codes.Register.the-variants.{A, B}
+use Rattle.code.specs.declared.codes.Index.{Index}
+use Rattle.code.specs.declared.codes.Index.the-variants.{X, Y}
+use Rattle.code.specs.declared.codes.Extended.{Extended}
+use Rattle.code.specs.declared.codes.Transfer.{Transfer}
+use Rattle.code.specs.declared.codes.Transfer.the-variants.{Sax, Cax, Lax, Cxa, Xax}
+use Rattle.code.specs.declared.codes.Indexing.{Indexing}
+use Rattle.code.specs.declared.codes.Indexing.the-variants.{Stx, Ldx, Adx, Isx, Dsx}
+use Rattle.code.specs.declared.codes.Bytes.{Bytes}
+use Rattle.code.specs.declared.codes.Bytes.the-variants.{Lbt, Sbt, Mbt, Cbt}
+use Rattle.code.specs.declared.codes.Words.{Words}
+use Rattle.code.specs.declared.codes.Words.the-variants.{Cmw, Mvw}
+use Rattle.code.specs.declared.instructions.ShiftRotate.{ShiftRotate}
+use Rattle.code.specs.declared.instructions.AlterSkip.{AlterSkip}
+use Rattle.code.specs.declared.instructions.IoOperation.{IoOperation}
+use Rattle.code.specs.declared.instructions.IoOperation.the-variants.{Hlt, Flag, Sfc, Sfs, Mia, Lia, Ota, Control}
+use Rattle.code.specs.declared.instructions.Instruction.{Instruction}
 use Rattle.machine.specs.declared.ways.Taking.{Taking}
 use Rattle.machine.specs.declared.ways.Taking.the-variants.{And, Xor, Ior, Add, Compare, Load, Multiply, Divide, LoadIndex, AddIndex}
 use Rattle.machine.specs.declared.ways.Source.{Source}
@@ -73,7 +73,7 @@ use Rattle.machine.specs.declared.strings.Element.{Element}
 use Rattle.machine.specs.declared.strings.Element.the-variants.{Word, Byte}
 use Rattle.machine.specs.declared.strings.Mask.{Mask}
 use Rattle.machine.specs.declared.strings.Mask.the-variants.{Setting, Clearing, Testing}
-use Rattle.machine.proofs.Truth.{never}
+use Rattle.code.proofs.Truth.{never}
 
 -- every ending of a program keeps R; a chain's address has 15 bits
 abbrev pub Keeps : (Registers → Type 0) → Act → Type 0

@@ -22,19 +22,19 @@ use Rattle.word.specs.declared.long.Long.{Long}
 use Rattle.machine.specs.Record.{withA, withB, withE, withO, withLights, inRegister, withRegister, inIndex, withIndex}
 use Rattle.machine.specs.Ways.{ahead, flagged}
 use Rattle.machine.specs.declared.record.Registers.{Registers}
-use Rattle.machine.specs.declared.codes.Register.{Register}
-use Rattle.machine.specs.declared.codes.Register.the-variants.{A, B}
-use Rattle.machine.specs.declared.codes.Index.{Index}
-use Rattle.machine.specs.declared.instructions.ShiftRotate.{ShiftRotate}
-use Rattle.machine.specs.declared.instructions.AlterSkip.{AlterSkip}
-use Rattle.machine.specs.declared.instructions.IoOperation.{IoOperation}
-use Rattle.machine.specs.declared.instructions.IoOperation.the-variants.{Hlt, Flag, Sfc, Sfs, Mia, Lia, Ota, Control}
+use Rattle.code.specs.declared.codes.Register.{Register}
+use Rattle.code.specs.declared.codes.Register.the-variants.{A, B}
+use Rattle.code.specs.declared.codes.Index.{Index}
+use Rattle.code.specs.declared.instructions.ShiftRotate.{ShiftRotate}
+use Rattle.code.specs.declared.instructions.AlterSkip.{AlterSkip}
+use Rattle.code.specs.declared.instructions.IoOperation.{IoOperation}
+use Rattle.code.specs.declared.instructions.IoOperation.the-variants.{Hlt, Flag, Sfc, Sfs, Mia, Lia, Ota, Control}
 use Rattle.machine.specs.declared.replies.Reply.{Reply}
 use Rattle.machine.specs.declared.replies.Stepped.{Stepped}
 use Rattle.machine.specs.Acts.{Act, fin, stop, violate, Performs}
 use Rattle.maps.specs.Pages.{protecting}
-use Rattle.machine.specs.declared.instructions.Alter.{Alter}
-use Rattle.machine.specs.declared.instructions.Alter.the-variants.{Keep, Clear, Complement, Ones}
+use Rattle.code.specs.declared.instructions.Alter.{Alter}
+use Rattle.code.specs.declared.instructions.Alter.the-variants.{Keep, Clear, Complement, Ones}
 
 -- 01, Shift/rotate: "First shift .., enabled by bit 9; CLE bit 5; SLA or SLB bit 3; second shift .., enabled by bit 4, in that order."
 abbrev pub shiftPlace : Bool → ShiftCode → ℕ → Bool → Shifted

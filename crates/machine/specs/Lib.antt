@@ -1,5 +1,4 @@
 -- What the machine means, by subject.
---     Kinds, Codes, Instructions    the extended codes; every word's instruction, and every instruction's word
 --     Replies, Record               the replies and the register record
 --     Acts                          what a rule is, and how one is run
 --     Ways, Group, Strings          what instructions do: at an address, with registers alone, with strings
@@ -7,9 +6,6 @@
 --     Rules                         the rule of each instruction
 --     Step                          one step, and a run
 -- Assumes nothing.
-pub mod Kinds
-pub mod Codes
-pub mod Instructions
 pub mod Replies
 pub mod Record
 pub mod Acts

@@ -5,10 +5,10 @@ use mathlib.Core.Bool.{Bool, false, not, _&&_, _||_}
 use lib.Dec.{eqb, ltb}
 use Rattle.maps.specs.Pages.{executeMap, data2Map, protecting}
 use Rattle.machine.specs.declared.record.Registers.{Registers}
-use Rattle.machine.specs.declared.codes.Register.{Register}
-use Rattle.machine.specs.declared.codes.Register.the-variants.{A, B}
-use Rattle.machine.specs.declared.codes.Index.{Index}
-use Rattle.machine.specs.declared.codes.Index.the-variants.{X, Y}
+use Rattle.code.specs.declared.codes.Register.{Register}
+use Rattle.code.specs.declared.codes.Register.the-variants.{A, B}
+use Rattle.code.specs.declared.codes.Index.{Index}
+use Rattle.code.specs.declared.codes.Index.the-variants.{X, Y}
 
 abbrev pub withA : Registers → ℕ → Registers
 withA r v =

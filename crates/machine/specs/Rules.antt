@@ -13,8 +13,8 @@ use Rattle.word.specs.declared.sums.Sum.{Sum}
 use Rattle.maps.specs.Pages.{protecting}
 use Rattle.maps.specs.declared.pages.Map.{Map}
 use Rattle.maps.specs.declared.pages.Map.the-variants.{Execute, Data1, Data2}
-use Rattle.machine.specs.Codes.{privileged}
-use Rattle.machine.specs.Instructions.{reading}
+use Rattle.code.specs.Codes.{privileged}
+use Rattle.code.specs.Instructions.{reading}
 use Rattle.machine.specs.Record.{withP, withTrap, inIndex}
 use Rattle.machine.specs.Acts.{Act, fin, stop, violate, load, save, follow}
 use Rattle.machine.specs.Ways.{wayAct}
@@ -22,28 +22,28 @@ use Rattle.machine.specs.Group.{shiftRotated, alterSkipped, longRotated,
 use Rattle.machine.specs.Strings.{operand, byteLoaded, byteStored, moveAct, compareAct, maskAct}
 use Rattle.machine.specs.declared.record.Registers.{Registers}
 use Rattle.machine.specs.declared.replies.Reply.{Reply}
-use Rattle.machine.specs.declared.codes.Register.{Register}
-use Rattle.machine.specs.declared.codes.Register.the-variants.{A, B}
-use Rattle.machine.specs.declared.codes.Index.{Index}
-use Rattle.machine.specs.declared.codes.Data.{Data}
-use Rattle.machine.specs.declared.codes.Data.the-variants.{One, Two}
-use Rattle.machine.specs.declared.codes.Extended.{Extended}
-use Rattle.machine.specs.declared.codes.Cross.{Cross}
-use Rattle.machine.specs.declared.codes.Cross.the-variants.{Xl, Xs, Xc}
-use Rattle.machine.specs.declared.codes.Transfer.{Transfer}
-use Rattle.machine.specs.declared.codes.Transfer.the-variants.{Sax, Cax, Lax, Cxa, Xax}
-use Rattle.machine.specs.declared.codes.Indexing.{Indexing}
-use Rattle.machine.specs.declared.codes.Indexing.the-variants.{Stx, Ldx, Adx, Isx, Dsx}
-use Rattle.machine.specs.declared.codes.Arithmetic.{Arithmetic}
-use Rattle.machine.specs.declared.codes.Arithmetic.the-variants.{Mpy, Div, Dld, Dst}
-use Rattle.machine.specs.declared.codes.Bytes.{Bytes}
-use Rattle.machine.specs.declared.codes.Bytes.the-variants.{Lbt, Sbt, Mbt, Cbt}
-use Rattle.machine.specs.declared.codes.Bits.{Bits}
-use Rattle.machine.specs.declared.codes.Bits.the-variants.{Sbs, Cbs, Tbs}
-use Rattle.machine.specs.declared.codes.Words.{Words}
-use Rattle.machine.specs.declared.codes.Words.the-variants.{Cmw, Mvw}
-use Rattle.machine.specs.declared.instructions.Operation.{Operation}
-use Rattle.machine.specs.declared.instructions.Instruction.{Instruction}
+use Rattle.code.specs.declared.codes.Register.{Register}
+use Rattle.code.specs.declared.codes.Register.the-variants.{A, B}
+use Rattle.code.specs.declared.codes.Index.{Index}
+use Rattle.code.specs.declared.codes.Data.{Data}
+use Rattle.code.specs.declared.codes.Data.the-variants.{One, Two}
+use Rattle.code.specs.declared.codes.Extended.{Extended}
+use Rattle.code.specs.declared.codes.Cross.{Cross}
+use Rattle.code.specs.declared.codes.Cross.the-variants.{Xl, Xs, Xc}
+use Rattle.code.specs.declared.codes.Transfer.{Transfer}
+use Rattle.code.specs.declared.codes.Transfer.the-variants.{Sax, Cax, Lax, Cxa, Xax}
+use Rattle.code.specs.declared.codes.Indexing.{Indexing}
+use Rattle.code.specs.declared.codes.Indexing.the-variants.{Stx, Ldx, Adx, Isx, Dsx}
+use Rattle.code.specs.declared.codes.Arithmetic.{Arithmetic}
+use Rattle.code.specs.declared.codes.Arithmetic.the-variants.{Mpy, Div, Dld, Dst}
+use Rattle.code.specs.declared.codes.Bytes.{Bytes}
+use Rattle.code.specs.declared.codes.Bytes.the-variants.{Lbt, Sbt, Mbt, Cbt}
+use Rattle.code.specs.declared.codes.Bits.{Bits}
+use Rattle.code.specs.declared.codes.Bits.the-variants.{Sbs, Cbs, Tbs}
+use Rattle.code.specs.declared.codes.Words.{Words}
+use Rattle.code.specs.declared.codes.Words.the-variants.{Cmw, Mvw}
+use Rattle.code.specs.declared.instructions.Operation.{Operation}
+use Rattle.code.specs.declared.instructions.Instruction.{Instruction}
 use Rattle.machine.specs.declared.ways.Taking.{Taking}
 use Rattle.machine.specs.declared.ways.Source.{Source}
 use Rattle.machine.specs.declared.ways.Way.{Way}

@@ -1,10 +1,10 @@
 // The instructions that touch no memory: shift/rotate, alter/skip, long shifts, index registers, I/O.
-use crate::codes::Index;
-use crate::codes::Register;
-use crate::instructions::Alter;
-use crate::instructions::AlterSkip;
-use crate::instructions::IoOperation;
-use crate::instructions::ShiftRotate;
+use code::codes::Index;
+use code::codes::Register;
+use code::instructions::Alter;
+use code::instructions::AlterSkip;
+use code::instructions::IoOperation;
+use code::instructions::ShiftRotate;
 use crate::record::Registers;
 use crate::record::go_ahead;
 use crate::record::go_skipping;

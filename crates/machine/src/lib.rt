@@ -1,6 +1,4 @@
-pub mod codes;
 pub mod group;
-pub mod instructions;
 pub mod memory;
 pub mod moves;
 pub mod record;

@@ -1,6 +1,6 @@
 // Memory reference: the address word that an instruction makes, the way it goes, and a trap cell.
-use crate::codes::Register;
-use crate::instructions::Operation;
+use code::codes::Register;
+use code::instructions::Operation;
 use crate::record::Registers;
 use crate::record::go_to;
 use crate::record::interrupt;

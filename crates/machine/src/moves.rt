@@ -1,5 +1,5 @@
 // MVW and MBT after their count was read: the tests of both ranges, then one element after another.
-use crate::codes::Register;
+use code::codes::Register;
 use crate::record::Registers;
 use crate::record::go_ahead;
 use crate::record::interrupt;

@@ -1,6 +1,6 @@
 // The register record, by value.
-use crate::codes::Index;
-use crate::codes::Register;
+use code::codes::Index;
+use code::codes::Register;
 use word::sums::past;
 ghost use mathlib.Core.Path.{_≡_};
 ghost use Prim.Native.Nat.{_+_};

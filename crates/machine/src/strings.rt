@@ -1,5 +1,5 @@
 // Words and bytes, single and in strings, and the masks; the address words of an instruction.
-use crate::codes::Register;
+use code::codes::Register;
 use crate::record::Registers;
 use crate::record::go_ahead;
 use crate::record::go_to;

@@ -1,6 +1,6 @@
 // The ways in which an instruction works on the word at its address.
-use crate::codes::Index;
-use crate::codes::Register;
+use code::codes::Index;
+use code::codes::Register;
 use crate::record::Registers;
 use crate::record::go_ahead;
 use crate::record::go_skipping;

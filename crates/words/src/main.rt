@@ -1,10 +1,10 @@
 // Reads all 65,536 words and prints how many are of each class.
 use libc::STDOUT_FILENO;
-use machine::instructions::Instruction;
+use code::instructions::Instruction;
 
 // A class by its number, in the order of the listing.
 fn class_of(word: u16) -> u8 {
-    match machine::instructions::read_instruction(word) {
+    match code::instructions::read_instruction(word) {
         Instruction::MemoryReference { .. } => 0,
         Instruction::ShiftRotate(_) => 1,
         Instruction::AlterSkip(_) => 2,

@@ -1,0 +1,152 @@
+-- The fields of an instruction that are a choice, and their numbers: each way back.
+--     operation-back, register-back, shift-back, alter-back, io-back    the choice of a choice's number
+--     operation-is, register-is, shift-is, alter-is, io-is    the same, from the number
+--     operation-code, register-number, shift-number, alter-number, io-number    the number of a number's choice
+--     operation-range, register-small, shift-small, alter-small, io-small    how large a choice's number is
+-- Assumes nothing.
+use mathlib.Core.Path.{_≡_, refl, _∙_, sym, ap}
+use Prim.Native.Nat.{ℕ, _+_, _*_, _/_, _-_, _≤_, _<_}
+use native.Mathlib.Omega.{arith}
+use borrow.Author.Tests.{eqb-true}
+use lib.Dec.{eqb}
+use Rattle.word.specs.declared.shifts.ShiftCode.{ShiftCode}
+use Rattle.word.specs.declared.shifts.ShiftCode.the-variants.{Als, Ars, Ral, Rar, Alr, Era, Ela, Alf}
+use Rattle.code.specs.declared.codes.Register.{Register}
+use Rattle.code.specs.declared.codes.Register.the-variants.{A, B}
+use Rattle.code.specs.declared.instructions.Operation.{Operation}
+use Rattle.code.specs.declared.instructions.Operation.the-variants.{And, Jsb, Xor, Jmp, Ior, Isz, Ada, Adb, Cpa, Cpb, Lda, Ldb, Sta, Stb}
+use Rattle.code.specs.declared.instructions.Alter.{Alter}
+use Rattle.code.specs.declared.instructions.Alter.the-variants.{Keep, Clear, Complement, Ones}
+use Rattle.code.specs.declared.instructions.IoOperation.{IoOperation}
+use Rattle.code.specs.declared.instructions.IoOperation.the-variants.{Hlt, Flag, Sfc, Sfs, Mia, Lia, Ota, Control}
+use Rattle.code.specs.Instructions.{operationCode, operationAt, registerFlag, registerAt, shiftNumber, shiftAt}
+use Rattle.code.specs.Instructions.{alterNumber, alterAt, ioNumber, ioAt}
+use Rattle.code.proofs.Digits.{under}
+
+pub operation-back : (o : Operation) → operationAt (operationCode o / 0o4000) ≡ o
+operation-back And = refl
+operation-back Jsb = refl
+operation-back Xor = refl
+operation-back Jmp = refl
+operation-back Ior = refl
+operation-back Isz = refl
+operation-back Ada = refl
+operation-back Adb = refl
+operation-back Cpa = refl
+operation-back Cpb = refl
+operation-back Lda = refl
+operation-back Ldb = refl
+operation-back Sta = refl
+operation-back Stb = refl
+
+pub register-back : (o : Register) → registerAt (registerFlag o) ≡ o
+register-back A = refl
+register-back B = refl
+
+pub shift-back : (o : ShiftCode) → shiftAt (shiftNumber o) ≡ o
+shift-back Als = refl
+shift-back Ars = refl
+shift-back Ral = refl
+shift-back Rar = refl
+shift-back Alr = refl
+shift-back Era = refl
+shift-back Ela = refl
+shift-back Alf = refl
+
+pub alter-back : (o : Alter) → alterAt (alterNumber o) ≡ o
+alter-back Keep = refl
+alter-back Clear = refl
+alter-back Complement = refl
+alter-back Ones = refl
+
+pub io-back : (o : IoOperation) → ioAt (ioNumber o) ≡ o
+io-back Hlt = refl
+io-back Flag = refl
+io-back Sfc = refl
+io-back Sfs = refl
+io-back Mia = refl
+io-back Lia = refl
+io-back Ota = refl
+io-back Control = refl
+
+pub operation-is : (o : Operation) (n : ℕ) → operationCode o ≡ n * 0o4000 → o ≡ operationAt n
+operation-is o n h = let q : operationCode o / 0o4000 ≡ n = omega arith in sym (operation-back o) ∙ ap operationAt q
+
+pub register-is : (o : Register) (n : ℕ) → registerFlag o ≡ n → o ≡ registerAt n
+register-is o n h = sym (register-back o) ∙ ap registerAt h
+
+pub shift-is : (o : ShiftCode) (n : ℕ) → shiftNumber o ≡ n → o ≡ shiftAt n
+shift-is o n h = sym (shift-back o) ∙ ap shiftAt h
+
+pub alter-is : (o : Alter) (n : ℕ) → alterNumber o ≡ n → o ≡ alterAt n
+alter-is o n h = sym (alter-back o) ∙ ap alterAt h
+
+pub io-is : (o : IoOperation) (n : ℕ) → ioNumber o ≡ n → o ≡ ioAt n
+io-is o n h = sym (io-back o) ∙ ap ioAt h
+
+pub operation-code : (n : ℕ) → 2 ≤ n → n < 16 → operationCode (operationAt n) ≡ n * 0o4000
+operation-code n l h =
+    let m : (n - 2) + 2 ≡ n = omega arith in
+    let t = eqb-true (operationCode (operationAt ((n - 2) + 2))) (((n - 2) + 2) * 0o4000)
+    (under (λ i. eqb (operationCode (operationAt (i + 2))) ((i + 2) * 0o4000)) 14 tt (n - 2) (omega arith)) in
+    rw m at t
+
+pub register-number : (n : ℕ) → n < 2 → registerFlag (registerAt n) ≡ n
+register-number n h = eqb-true (registerFlag (registerAt n)) n (under (λ i. eqb (registerFlag (registerAt i)) i) 2 tt n h)
+
+pub shift-number : (n : ℕ) → n < 8 → shiftNumber (shiftAt n) ≡ n
+shift-number n h = eqb-true (shiftNumber (shiftAt n)) n (under (λ i. eqb (shiftNumber (shiftAt i)) i) 8 tt n h)
+
+pub alter-number : (n : ℕ) → n < 4 → alterNumber (alterAt n) ≡ n
+alter-number n h = eqb-true (alterNumber (alterAt n)) n (under (λ i. eqb (alterNumber (alterAt i)) i) 4 tt n h)
+
+pub io-number : (n : ℕ) → n < 8 → ioNumber (ioAt n) ≡ n
+io-number n h = eqb-true (ioNumber (ioAt n)) n (under (λ i. eqb (ioNumber (ioAt i)) i) 8 tt n h)
+
+pub operation-range :
+    (o : Operation) →
+    (2 ≤ operationCode o / 0o4000) × (operationCode o / 0o4000 < 16) × (operationCode o / 0o4000 * 0o4000 ≡ operationCode o)
+operation-range And = omega arith
+operation-range Jsb = omega arith
+operation-range Xor = omega arith
+operation-range Jmp = omega arith
+operation-range Ior = omega arith
+operation-range Isz = omega arith
+operation-range Ada = omega arith
+operation-range Adb = omega arith
+operation-range Cpa = omega arith
+operation-range Cpb = omega arith
+operation-range Lda = omega arith
+operation-range Ldb = omega arith
+operation-range Sta = omega arith
+operation-range Stb = omega arith
+
+pub register-small : (o : Register) → registerFlag o < 2
+register-small A = omega arith
+register-small B = omega arith
+
+pub shift-small : (o : ShiftCode) → shiftNumber o < 8
+shift-small Als = omega arith
+shift-small Ars = omega arith
+shift-small Ral = omega arith
+shift-small Rar = omega arith
+shift-small Alr = omega arith
+shift-small Era = omega arith
+shift-small Ela = omega arith
+shift-small Alf = omega arith
+
+pub alter-small : (o : Alter) → alterNumber o < 4
+alter-small Keep = omega arith
+alter-small Clear = omega arith
+alter-small Complement = omega arith
+alter-small Ones = omega arith
+
+pub io-small : (o : IoOperation) → ioNumber o < 8
+io-small Hlt = omega arith
+io-small Flag = omega arith
+io-small Sfc = omega arith
+io-small Sfs = omega arith
+io-small Mia = omega arith
+io-small Lia = omega arith
+io-small Ota = omega arith
+io-small Control = omega arith

@@ -1,0 +1,25 @@
+-- `machine::codes::extended_length` meets its contract. Assumes nothing.
+use borrow.Author.Needs.{needs}
+use Rattle.code.specs.Codes.{lengthOf}
+use Rattle.code.proofs.codes.extended_length.Statement.{statement}
+use Rattle.code.proofs.codes.extended_length.Tie as tie
+
+find-kind-requires : tie.Need-find-kind-requires
+find-kind-requires c κs = search needs
+
+enum-known-entry : tie.Need-enum-known-entry
+enum-known-entry c = search needs
+
+enum-told : tie.Need-enum-told
+enum-told c = search needs
+
+returns : tie.Need-returns
+unfolding lengthOf
+returns c = rw (← c .before .before .before .find-kind .ensures, c .before .entry .given .1, lengthOf)
+
+returns-2 : tie.Need-returns-2
+unfolding lengthOf
+returns-2 c = rw (← c .before .before .find-kind .ensures, c .enum-told .given .1, lengthOf)
+
+pub extended-length-spec : {M : Type 1} → statement M
+extended-length-spec = tie.close (tie.spec find-kind-requires enum-known-entry enum-told returns returns-2)

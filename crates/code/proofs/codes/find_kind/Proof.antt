@@ -1,0 +1,75 @@
+-- `machine::codes::find_kind` meets its contract. The loop's invariant: the search of the rows from i on gives what the
+-- search of the whole table gives. Assumes nothing.
+use mathlib.Core.Path.{_≡_, refl, _∙_, sym}
+use Prim.Native.Nat.{_≤_, _-_}
+use native.Mathlib.Omega.{arith}
+use borrow.Author.Needs.{needs}
+use lib.ListN.{drop}
+use Rattle.code.specs.Kinds.{same}
+use Rattle.code.specs.Codes as codes
+use Rattle.code.specs.Codes.{first, findKind}
+use Rattle.code.proofs.Table.{kind-met, kind-passed, past}
+use Rattle.code.proofs.codes.find_kind.Statement.{statement}
+use Rattle.code.proofs.codes.find_kind.Tie as tie
+
+abbrev Inv-loop : tie.InvT-loop
+Inv-loop kind rows wanted i₀ i = (i ≤ 61) × (first (λ e. same (e .kind) kind) (drop i codes.rows) ≡ findKind kind)
+
+abbrev μ-loop : tie.MeasureT-loop
+μ-loop kind rows wanted i₀ i = 61 - i
+
+table-requires : tie.Need-table-requires Inv-loop μ-loop
+table-requires c κs = search needs
+
+kind-number-requires : tie.Need-kind-number-requires Inv-loop μ-loop
+kind-number-requires c κs = search needs
+
+loop-holds : tie.Need-loop-holds Inv-loop μ-loop
+unfolding findKind
+loop-holds c = (search needs, refl)
+
+mul-row : tie.Need-mul-row Inv-loop μ-loop
+mul-row c = omega arith
+
+array-copy-out-row : tie.Need-array-copy-out-row Inv-loop μ-loop
+array-copy-out-row c = omega arith
+
+returns : tie.Need-returns Inv-loop μ-loop
+returns c =
+    let at = c .before .before .before in
+    kind-met _ (at .before .before .table .ensures) (at .loop .i) (c .before .before .loop-test .taken) _ (at .loop .inv .1)
+    (c .if1 .taken ∙ at .before .kind-number .ensures)
+
+add-i : tie.Need-add-i Inv-loop μ-loop
+add-i c = omega arith
+
+loop-less : tie.Need-loop-less Inv-loop μ-loop
+loop-less c = omega arith
+
+loop-again : tie.Need-loop-again Inv-loop μ-loop
+loop-again c =
+    let at = c .before .before .before in (
+      omega arith,
+      kind-passed _ (at .before .before .table .ensures) (at .loop .i) (c .before .before .loop-test .taken) _ (at .loop .inv .1)
+          (λ e. c .if1 .left (e ∙ sym (at .before .kind-number .ensures))),
+    )
+
+returns-2 : tie.Need-returns-2 Inv-loop μ-loop
+returns-2 c = sym (past _ (c .before .loop .i) (c .before .loop .inv .0) (c .loop-test .left)) ∙ c .before .loop .inv .1
+
+pub find-kind-spec : {M : Type 1} → statement M
+find-kind-spec =
+    tie.close
+    (tie.spec
+    Inv-loop
+    μ-loop
+    table-requires
+    kind-number-requires
+    loop-holds
+    mul-row
+    array-copy-out-row
+    returns
+    add-i
+    loop-less
+    loop-again
+    returns-2)
