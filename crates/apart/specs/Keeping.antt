@@ -34,7 +34,7 @@ use Rattle.machine.specs.Group.{shiftRotated, alterEnded, alterSkipped, longRot
 use Rattle.machine.specs.Strings.{wordAt, along, valueOf, purposeOf, saving, touches, opensAll, presentAll, moving, moved, orderOf, onOrder, loadElement, compared, comparing, byteLoaded, byteStored, counted, noneToDo, moveAct, compareAct, masked, maskAct}
 use Rattle.code.specs.Codes.{privileged}
 use Rattle.code.specs.Instructions.{reading}
-use Rattle.machine.specs.Rules.{memoryWay, arithmeticWay, crossWay, atOperand, transferAct, indexingAct, bytesAct, bitsMask, wordsAct, extendedAct, rule, trapWay, trapRule, stepAct}
+use Rattle.machine.specs.Rules.{memoryWay, arithmeticWay, crossWay, atOperand, transferAct, indexingAct, bytesAct, wordsAct, extendedAct, rule, trapWay, trapRule, stepAct}
 use Rattle.machine.specs.Replies.{number}
 use Rattle.machine.specs.Step.{goodCall, stepped}
 use Rattle.machine.specs.declared.record.Registers.{Registers}
@@ -54,7 +54,7 @@ use Rattle.machine.specs.declared.ways.Taking.{Taking}
 use Rattle.machine.specs.declared.ways.Source.{Source}
 use Rattle.machine.specs.declared.ways.Way.{Way}
 use Rattle.machine.specs.declared.strings.Element.{Element}
-use Rattle.machine.specs.declared.strings.Mask.{Mask}
+use Rattle.code.specs.declared.codes.Bits.{Bits}
 
 pub data Keeps : Act → Type 0 where
   ends : {f : Registers → Registers} → ((s : Registers) → f s .wmap ≡ s .wmap) → Keeps (fin f)
@@ -263,12 +263,12 @@ keeps-byte-stored : (r : Registers) → Keeps (byteStored r)
 keeps-byte-stored r =
     keeps-choice (isRegister Map.Execute (wordAt Element.Byte (r .b))) _ _ stops (opens (loads (λ w. saves (ends (λ s. refl)))))
 
-keeps-masked : (x : Mask) (r : Registers) (mask w at : ℕ) → Keeps (masked x r mask w at)
-keeps-masked Mask.Setting r mask w at = saves (ends (λ s. refl))
-keeps-masked Mask.Clearing r mask w at = saves (ends (λ s. refl))
-keeps-masked Mask.Testing r mask w at = ends (λ s. refl)
+keeps-masked : (x : Bits) (r : Registers) (mask w at : ℕ) → Keeps (masked x r mask w at)
+keeps-masked Bits.Sbs r mask w at = saves (ends (λ s. refl))
+keeps-masked Bits.Cbs r mask w at = saves (ends (λ s. refl))
+keeps-masked Bits.Tbs r mask w at = ends (λ s. refl)
 
-keeps-mask : (x : Mask) (r : Registers) → Keeps (maskAct x r)
+keeps-mask : (x : Bits) (r : Registers) → Keeps (maskAct x r)
 keeps-mask x r =
     loads (λ v. follows (λ m. loads (λ w. follows (λ at. loads (λ mask. loads (λ t. keeps-masked x r mask t at))))))
 
@@ -307,7 +307,7 @@ keeps-extended (Extended.Transfer x g i) r = keeps-transfer x g i r
 keeps-extended (Extended.Indexing x i) r = keeps-indexing x i r
 keeps-extended (Extended.Arithmetic x) r = keeps-operand (arithmeticWay x) r
 keeps-extended (Extended.Bytes x) r = keeps-bytes x r
-keeps-extended (Extended.Bits x) r = keeps-mask (bitsMask x) r
+keeps-extended (Extended.Bits x) r = keeps-mask x r
 keeps-extended (Extended.Words x) r = keeps-words x r
 
 keeps-rule : (i : Instruction) (r : Registers) → Keeps (rule i r)

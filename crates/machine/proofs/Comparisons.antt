@@ -7,10 +7,10 @@ use native.Mathlib.Omega.{arith}
 use mathlib.Core.Path.{_≡_, refl}
 use mathlib.Core.List.{List}
 use Rattle.word.specs.declared.orders.Order.{Order}
-use Rattle.machine.specs.Acts.{Act, fin, exec, Performs}
+use Rattle.machine.specs.Acts.{Act, fin, exec, troubled}
 use Rattle.machine.specs.Strings.{along, onOrder, pairing, compared, comparing, Compares}
 use Rattle.machine.specs.declared.record.Registers.{Registers}
-use Rattle.machine.specs.declared.replies.Stepped.{Stepped}
+use Rattle.machine.specs.declared.replies.Trouble.{Trouble}
 use Rattle.machine.specs.declared.strings.Element.{Element}
 use Rattle.machine.specs.declared.strings.Pair.{Pair}
 
@@ -31,7 +31,7 @@ module _ (pages : List ℕ) (u : Element) (end s d n : ℕ) (r : Registers) (m :
   unfolding Compares
   ordered h e = rw (turning u end s d n some) ((rw e at h) (turn u end s d (n - 1)))
 
-  pub stopped : {p : Pair} {t : Stepped} → Compares pages u s d r m p → p ≡ Pair.Ends t
-      → Performs pages (comparing u end s d n) r m t m
+  pub stopped : {p : Pair} {t : Trouble} → Compares pages u s d r m p → p ≡ Pair.Ends t
+      → exec pages (comparing u end s d n) r m ≡ troubled t
   unfolding Compares
   stopped h e = rw (turning u end s d n some) ((rw e at h) (turn u end s d (n - 1)))

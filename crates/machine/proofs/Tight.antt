@@ -12,20 +12,24 @@ use borrow.Fn.Kinds.{PK, RK, Out, endedOf, resT, Dens}
 use denote.Triple.Clauses.{AtExit}
 use denote.Ref.{now}
 use contract.Lifetimes.{Lfts}
-use mathlib.Core.Path.{_≡_, sym, _∙_, ap}
+use mathlib.Core.Path.{_≡_, refl, sym, _∙_, ap}
+use mathlib.Core.Bool.{cond}
 use mathlib.Core.List.{List, []}
+use lib.Dec.{eqb}
 use Rattle.word.proofs.Tight.{OneResult}
 use Rattle.machine.specs.Record.{withA}
 use Rattle.machine.specs.Replies.{number}
-use Rattle.machine.specs.Acts.{Act, fin, stop, violate, Result, done, violated, refused, exec, Ends, Gives}
+use Rattle.machine.specs.Acts.{Act, fin, violate, Result, done, violated, refused, exec, troubled, Ends, Gives}
 use Rattle.machine.specs.declared.record.Registers.{Registers}
-use Rattle.machine.specs.declared.replies.Reply.{Reply}
 use Rattle.machine.specs.declared.replies.Stepped.{Stepped}
-use Rattle.machine.specs.declared.strings.Got.{Got}
+use Rattle.machine.specs.declared.replies.Trouble.{Trouble}
+use Rattle.machine.specs.declared.reads.Got.{Got}
 use Rattle.machine.proofs.replies.completed.Kinds as completed
 use Rattle.machine.proofs.replies.completed.Reads as completed-reads
 use Rattle.machine.proofs.replies.refuse.Kinds as refuse
 use Rattle.machine.proofs.replies.refuse.Reads as refuse-reads
+use Rattle.machine.proofs.replies.stop_by.Kinds as stop-by
+use Rattle.machine.proofs.replies.stop_by.Reads as stop-by-reads
 use Rattle.machine.proofs.record.fresh_record.Kinds as fresh-record
 use Rattle.machine.proofs.record.fresh_record.Reads as fresh-record-reads
 use Rattle.machine.proofs.record.register.Kinds as register
@@ -80,8 +84,6 @@ use Rattle.machine.proofs.ways.value_of.Kinds as value-of
 use Rattle.machine.proofs.ways.value_of.Reads as value-of-reads
 use Rattle.machine.proofs.ways.at_address.Kinds as at-address
 use Rattle.machine.proofs.ways.at_address.Reads as at-address-reads
-use Rattle.machine.proofs.ways.at_chain.Kinds as at-chain
-use Rattle.machine.proofs.ways.at_chain.Reads as at-chain-reads
 use Rattle.machine.proofs.memory.memory_way.Kinds as memory-way
 use Rattle.machine.proofs.memory.memory_way.Reads as memory-way-reads
 use Rattle.machine.proofs.memory.memory_word.Kinds as memory-word
@@ -94,14 +96,16 @@ use Rattle.machine.proofs.strings.word_at.Kinds as word-at
 use Rattle.machine.proofs.strings.word_at.Reads as word-at-reads
 use Rattle.machine.proofs.strings.go_along.Kinds as go-along
 use Rattle.machine.proofs.strings.go_along.Reads as go-along-reads
-use Rattle.machine.proofs.strings.address_at.Kinds as address-at
-use Rattle.machine.proofs.strings.address_at.Reads as address-at-reads
-use Rattle.machine.proofs.strings.get_address.Kinds as get-address
-use Rattle.machine.proofs.strings.get_address.Reads as get-address-reads
-use Rattle.machine.proofs.strings.get_word.Kinds as get-word
-use Rattle.machine.proofs.strings.get_word.Reads as get-word-reads
+use Rattle.machine.proofs.reads.get_address.Kinds as get-address
+use Rattle.machine.proofs.reads.get_address.Reads as get-address-reads
+use Rattle.machine.proofs.reads.get_word.Kinds as get-word
+use Rattle.machine.proofs.reads.get_word.Reads as get-word-reads
+use Rattle.machine.proofs.reads.get_target.Kinds as get-target
+use Rattle.machine.proofs.reads.get_target.Reads as get-target-reads
 use Rattle.machine.proofs.strings.get_element.Kinds as get-element
 use Rattle.machine.proofs.strings.get_element.Reads as get-element-reads
+use Rattle.machine.proofs.strings.is_none.Kinds as is-none
+use Rattle.machine.proofs.strings.is_none.Reads as is-none-reads
 use Rattle.machine.proofs.strings.count_at.Kinds as count-at
 use Rattle.machine.proofs.strings.count_at.Reads as count-at-reads
 use Rattle.machine.proofs.strings.load_byte.Kinds as load-byte
@@ -147,13 +151,38 @@ inA (done s m) = s .a
 inA violated = 0
 inA (refused reply) = 0
 
-apart : {pages : List ℕ} {part : (ℕ → Act) → Act} {r : Registers} {m : List ℕ} {X : Type 0} (v : ℕ) (s : Stepped)
-    → Gives pages part r m (Got.Value v) → Gives pages part r m (Got.Ends s) → X
+abbrev isDone : Result → ℕ
+isDone (done s m) = 1
+isDone violated = 0
+isDone (refused reply) = 0
+
+-- the paper's number of a result that is no end of a program
+abbrev numbered : Result → ℕ
+numbered (done s m) = 0
+numbered violated = 1
+numbered (refused reply) = number reply
+
+not-done : (t : Trouble) → isDone (troubled t) ≡ 0
+not-done Trouble.Violation = refl
+not-done Trouble.Endless = refl
+not-done Trouble.Absent = refl
+not-done Trouble.InRegisters = refl
+
+abbrev troubleOf : ℕ → Trouble
+troubleOf n = cond (eqb n 1) Trouble.Violation (cond (eqb n 3) Trouble.Endless (cond (eqb n 4) Trouble.Absent Trouble.InRegisters))
+
+told : (t : Trouble) → troubleOf (numbered (troubled t)) ≡ t
+told Trouble.Violation = refl
+told Trouble.Endless = refl
+told Trouble.Absent = refl
+told Trouble.InRegisters = refl
+
+apart : {pages : List ℕ} {part : (ℕ → Act) → Act} {r : Registers} {m : List ℕ} {X : Type 0} (v : ℕ) (t : Trouble)
+    → Gives pages part r m (Got.Value v) → Gives pages part r m (Got.Ends t) → X
 unfolding exec
-apart v s p q =
-    let one = rw (p .goes (λ _. violate)) at (q .goes (λ _. violate) .outcome) in
-    let two = rw (p .goes (λ _. stop Reply.BadCall)) at (q .goes (λ _. stop Reply.BadCall) .outcome) in
-    let e = ap (λ (t : Stepped). number (t .reply)) (sym one ∙ two) in
+apart v t p q =
+    let k : ℕ → Act = λ w. fin (λ s. s) in
+    let e = ap isDone (sym (p .goes k) ∙ q .goes k) ∙ not-done t in
     absurd (omega (arith, e))
 
 pub gives-tight : {pages : List ℕ} {part : (ℕ → Act) → Act} {r : Registers} {m : List ℕ} (g g′ : Got)
@@ -162,15 +191,20 @@ unfolding exec
 gives-tight (Got.Value v) (Got.Value v′) p p′ =
     let k : ℕ → Act = λ w. fin (λ t. withA t w) in
     ap Got.Value (ap inA (sym (p .goes k) ∙ p′ .goes k))
-gives-tight (Got.Value v) (Got.Ends s) p p′ = apart v s p p′
-gives-tight (Got.Ends s) (Got.Value v) p p′ = apart v s p′ p
-gives-tight (Got.Ends s) (Got.Ends s′) p p′ = ap Got.Ends (p .goes (λ _. violate) .outcome ∙ sym (p′ .goes (λ _. violate) .outcome))
+gives-tight (Got.Value v) (Got.Ends t) p p′ = apart v t p p′
+gives-tight (Got.Ends t) (Got.Value v) p p′ = apart v t p′ p
+gives-tight (Got.Ends t) (Got.Ends t′) p p′ =
+    let e = sym (p .goes (λ _. violate)) ∙ p′ .goes (λ _. violate) in
+    ap Got.Ends (sym (told t) ∙ ap (λ x. troubleOf (numbered x)) e ∙ told t′)
 
 pub completed-tight : OneResult 0 completed.ps completed.r completed-reads.Post
 completed-tight κs a x y s t p q = p ∙ sym q
 
 pub refuse-tight : OneResult 0 refuse.ps refuse.r refuse-reads.Post
 refuse-tight κs a x y s t p q = p ∙ sym q
+
+pub stop-by-tight : OneResult 0 stop-by.ps stop-by.r stop-by-reads.Post
+stop-by-tight κs a x y s t p q = p ∙ sym q
 
 pub fresh-record-tight : OneResult 0 fresh-record.ps fresh-record.r fresh-record-reads.Post
 fresh-record-tight κs a x y s t p q = p ∙ sym q
@@ -253,9 +287,6 @@ value-of-tight κs a x y s t p q = p ∙ sym q
 pub at-address-tight : OneMemory 2 at-address.ps at-address.r at-address-reads.Post (λ κs s. now (s .1 .1 .1 .1 .1 .0))
 at-address-tight κs a x y s t p q = ends-tight p q
 
-pub at-chain-tight : OneMemory 2 at-chain.ps at-chain.r at-chain-reads.Post (λ κs s. now (s .1 .1 .1 .1 .1 .0))
-at-chain-tight κs a x y s t p q = ends-tight p q
-
 pub memory-way-tight : OneResult 0 memory-way.ps memory-way.r memory-way-reads.Post
 memory-way-tight κs a x y s t p q = p ∙ sym q
 
@@ -274,17 +305,20 @@ word-at-tight κs a x y s t p q = p ∙ sym q
 pub go-along-tight : OneResult 0 go-along.ps go-along.r go-along-reads.Post
 go-along-tight κs a x y s t p q = p ∙ sym q
 
-pub address-at-tight : OneResult 2 address-at.ps address-at.r address-at-reads.Post
-address-at-tight κs a x y s t p q = p ∙ sym q
-
 pub get-address-tight : OneResult 2 get-address.ps get-address.r get-address-reads.Post
 get-address-tight κs a x y s t p q = gives-tight x y p q
 
 pub get-word-tight : OneResult 2 get-word.ps get-word.r get-word-reads.Post
 get-word-tight κs a x y s t p q = gives-tight x y p q
 
+pub get-target-tight : OneResult 2 get-target.ps get-target.r get-target-reads.Post
+get-target-tight κs a x y s t p q = gives-tight x y p q
+
 pub get-element-tight : OneResult 2 get-element.ps get-element.r get-element-reads.Post
 get-element-tight κs a x y s t p q = gives-tight x y p q
+
+pub is-none-tight : OneResult 0 is-none.ps is-none.r is-none-reads.Post
+is-none-tight κs a x y s t p q = p ∙ sym q
 
 pub count-at-tight : OneResult 2 count-at.ps count-at.r count-at-reads.Post
 count-at-tight κs a x y s t p q = gives-tight x y p q

@@ -41,7 +41,7 @@ use Rattle.machine.specs.Ways.{ahead, goOn, flagged, quotient, taken, wa
 use Rattle.machine.specs.Group.{shiftRotated, alterEnded, alterSkipped, longRotated, copiedToIndex, copiedFromIndex, exchanged, indexStepped, picked, panelAct, isHalt, ioAct}
 use Rattle.machine.specs.Strings.{wordAt, along, valueOf, purposeOf, saving, touches, opensAll, presentAll, moving, moved, orderOf, onOrder, loadElement, comparing}
 use Rattle.machine.specs.Strings.{byteLoaded, byteStored, noneToDo, counted, moveAct, compareAct, masked, maskAct}
-use Rattle.machine.specs.Rules.{memoryWay, memoryWord, arithmeticWay, crossWay, atOperand, transferAct, indexingAct, bytesAct, bitsMask, wordsAct, extendedAct}
+use Rattle.machine.specs.Rules.{memoryWay, memoryWord, arithmeticWay, crossWay, atOperand, transferAct, indexingAct, bytesAct, wordsAct, extendedAct}
 use Rattle.machine.specs.Rules.{rule, trapWay, trapRule, stepAct}
 use Rattle.machine.specs.Step.{wholePages, goodCall, stepped}
 use Rattle.machine.specs.declared.record.Registers.{Registers}
@@ -71,8 +71,8 @@ use Rattle.machine.specs.declared.ways.Way.{Way}
 use Rattle.machine.specs.declared.ways.Way.the-variants.{Take, Put, TakeIndexed, PutIndexed, LoadDouble, StoreDouble, StepAndSkip, Jump, JumpSaving}
 use Rattle.machine.specs.declared.strings.Element.{Element}
 use Rattle.machine.specs.declared.strings.Element.the-variants.{Word, Byte}
-use Rattle.machine.specs.declared.strings.Mask.{Mask}
-use Rattle.machine.specs.declared.strings.Mask.the-variants.{Setting, Clearing, Testing}
+use Rattle.code.specs.declared.codes.Bits.{Bits}
+use Rattle.code.specs.declared.codes.Bits.the-variants.{Sbs, Cbs, Tbs}
 use Rattle.code.proofs.Truth.{never}
 
 -- every ending of a program keeps R; a chain's address has 15 bits
@@ -392,12 +392,12 @@ move-valid u r = counted-valid r _ (λ c. moved-string-valid u Execute Execute (
 compare-valid : (u : Element) (r : Registers) → KeepsValid (compareAct u r)
 compare-valid u r = counted-valid r _ (λ c. comparing-valid u (along u (r .b) c) (along u (r .a) 0) (along u (r .b) 0) c)
 
-masked-valid : (x : Mask) (r : Registers) (mask w at : ℕ) → KeepsValid (masked x r mask w at)
-masked-valid Setting r mask w at = go-on-valid (r .p) 3
-masked-valid Clearing r mask w at = go-on-valid (r .p) 3
-masked-valid Testing r mask w at = go-on-valid (r .p) (3 + weight (not (everyBitSet mask w)))
+masked-valid : (x : Bits) (r : Registers) (mask w at : ℕ) → KeepsValid (masked x r mask w at)
+masked-valid Sbs r mask w at = go-on-valid (r .p) 3
+masked-valid Cbs r mask w at = go-on-valid (r .p) 3
+masked-valid Tbs r mask w at = go-on-valid (r .p) (3 + weight (not (everyBitSet mask w)))
 
-mask-valid : (x : Mask) (r : Registers) → KeepsValid (maskAct x r)
+mask-valid : (x : Bits) (r : Registers) → KeepsValid (maskAct x r)
 mask-valid x r = λ _ m _ _ at _ mask w. masked-valid x r mask w at
 
 -- the rules
@@ -435,7 +435,7 @@ extended-valid (Extended.Transfer x g i) r = transfer-valid x g i r
 extended-valid (Extended.Indexing x i) r = indexing-valid x i r
 extended-valid (Extended.Arithmetic x) r = operand-valid (arithmeticWay x) r
 extended-valid (Extended.Bytes x) r = bytes-valid x r
-extended-valid (Extended.Bits x) r = mask-valid (bitsMask x) r
+extended-valid (Extended.Bits x) r = mask-valid x r
 extended-valid (Extended.Words x) r = words-valid x r
 
 pub rule-valid : (i : Instruction) (r : Registers) → KeepsValid (rule i r)

@@ -2,7 +2,7 @@
 --     Act         the program: each access in its order, and how it ends
 --     Result      what running one gives
 --     exec        running one from registers and memory; page registers are only read
---     chainAt     the address that an address word after the instruction's first leads to
+--     operand     the address that an address word after the instruction's first leads to
 --     answer, left    the reply and registers of a result, and the memory that it leaves
 --     Performs, Gives     what a function promises that carries out a program, or the reading part of one
 -- A program that ends in trouble has changed nothing, by `answer` and `left`: that is said here, once, for every rule.
@@ -15,7 +15,7 @@ use lib.ListN.{length, set}
 use Rattle.word.specs.Sums.{address}
 use Rattle.maps.specs.Pages.{isOpen, presence, place}
 use Rattle.maps.specs.Access.{fetched}
-use Rattle.maps.specs.Chains.{chain, goingOn}
+use Rattle.maps.specs.Chains.{chain}
 use Rattle.maps.specs.declared.pages.Map.{Map}
 use Rattle.maps.specs.declared.pages.Purpose.{Purpose}
 use Rattle.maps.specs.declared.pages.Place.{Place}
@@ -26,7 +26,8 @@ use Rattle.machine.specs.Record.{withA, withB, interrupted}
 use Rattle.machine.specs.declared.record.Registers.{Registers}
 use Rattle.machine.specs.declared.replies.Reply.{Reply}
 use Rattle.machine.specs.declared.replies.Stepped.{Stepped}
-use Rattle.machine.specs.declared.strings.Got.{Got}
+use Rattle.machine.specs.declared.replies.Trouble.{Trouble}
+use Rattle.machine.specs.declared.reads.Got.{Got}
 
 pub data Act : Type 0 where
   -- completed: the registers that follow
@@ -88,9 +89,8 @@ exec pages (opened map purpose at k) r m = onOpen (isOpen pages (r .wmap) map pu
 exec pages (present map at k) r m = onPresence (presence pages (r .wmap) map at (length m)) (exec pages k r m)
 
 -- 01: "the second word and its chain, the third word and its chain": the word n past the instruction's first, as an address word
-unfoldable pub chainAt : List ℕ → Registers → List ℕ → ℕ → Chain
-chainAt pages r m n =
-    goingOn (fetched pages m (r .wmap) Map.Execute (address (r .p) n) (r .a) (r .b)) (λ w. chain pages m (r .wmap) w (r .a) (r .b))
+abbrev pub operand : ℕ → Registers → (ℕ → Act) → Act
+operand n r k = load Map.Execute (address (r .p) n) (λ w. follow w k)
 
 -- 01, What a step replies, "Returned and left": a refusal leaves all as given, a violation the interrupt state
 abbrev pub answer : Registers → Result → Stepped
@@ -112,11 +112,18 @@ pub record Ends (r : Registers) (m : List ℕ) (result : Result) (s : Stepped) (
 abbrev pub Performs : List ℕ → Act → Registers → List ℕ → Stepped → List ℕ → Type 0
 Performs pages act r m s n = Ends r m (exec pages act r m) s n
 
+-- the trouble that a reading part of a program meets
+abbrev pub troubled : Trouble → Result
+troubled Trouble.Violation = violated
+troubled Trouble.Endless = refused Reply.Endless
+troubled Trouble.Absent = refused Reply.Absent
+troubled Trouble.InRegisters = refused Reply.InRegisters
+
+abbrev pub onGot : Got → (ℕ → Result) → Result
+onGot (Got.Value v) k = k v
+onGot (Got.Ends t) k = troubled t
+
 -- what a function that carries out the reading part of a program promises: however the program goes on, it does so with the
 -- value, or has ended
-abbrev pub Follows : List ℕ → Act → (ℕ → Act) → Registers → List ℕ → Got → Type 0
-Follows pages act k r m (Got.Value v) = exec pages act r m ≡ exec pages (k v) r m
-Follows pages act k r m (Got.Ends s) = Performs pages act r m s m
-
 pub record Gives (pages : List ℕ) (part : (ℕ → Act) → Act) (r : Registers) (m : List ℕ) (g : Got) : Type 0 where
-  pub goes : (k : ℕ → Act) → Follows pages (part k) k r m g
+  pub goes : (k : ℕ → Act) → exec pages (part k) r m ≡ onGot g (λ v. exec pages (k v) r m)

@@ -16,10 +16,10 @@ use Rattle.maps.specs.declared.pages.Map.the-variants.{Execute, Data1, Data2}
 use Rattle.code.specs.Codes.{privileged}
 use Rattle.code.specs.Instructions.{reading}
 use Rattle.machine.specs.Record.{withP, withTrap, inIndex}
-use Rattle.machine.specs.Acts.{Act, fin, stop, violate, load, save, follow}
+use Rattle.machine.specs.Acts.{Act, fin, stop, violate, load, save, follow, operand}
 use Rattle.machine.specs.Ways.{wayAct}
 use Rattle.machine.specs.Group.{shiftRotated, alterSkipped, longRotated, copiedToIndex, copiedFromIndex, exchanged, indexStepped, ioAct}
-use Rattle.machine.specs.Strings.{operand, byteLoaded, byteStored, moveAct, compareAct, maskAct}
+use Rattle.machine.specs.Strings.{byteLoaded, byteStored, moveAct, compareAct, maskAct}
 use Rattle.machine.specs.declared.record.Registers.{Registers}
 use Rattle.machine.specs.declared.replies.Reply.{Reply}
 use Rattle.code.specs.declared.codes.Register.{Register}
@@ -38,8 +38,6 @@ use Rattle.code.specs.declared.codes.Arithmetic.{Arithmetic}
 use Rattle.code.specs.declared.codes.Arithmetic.the-variants.{Mpy, Div, Dld, Dst}
 use Rattle.code.specs.declared.codes.Bytes.{Bytes}
 use Rattle.code.specs.declared.codes.Bytes.the-variants.{Lbt, Sbt, Mbt, Cbt}
-use Rattle.code.specs.declared.codes.Bits.{Bits}
-use Rattle.code.specs.declared.codes.Bits.the-variants.{Sbs, Cbs, Tbs}
 use Rattle.code.specs.declared.codes.Words.{Words}
 use Rattle.code.specs.declared.codes.Words.the-variants.{Cmw, Mvw}
 use Rattle.code.specs.declared.instructions.Operation.{Operation}
@@ -49,7 +47,6 @@ use Rattle.machine.specs.declared.ways.Source.{Source}
 use Rattle.machine.specs.declared.ways.Way.{Way}
 use Rattle.machine.specs.declared.ways.Way.the-variants.{Take, Put, TakeIndexed, PutIndexed, LoadDouble, StoreDouble, StepAndSkip, Jump, JumpSaving}
 use Rattle.machine.specs.declared.strings.Element.{Element}
-use Rattle.machine.specs.declared.strings.Mask.{Mask}
 
 -- AND JSB XOR JMP IOR ISZ ADA ADB CPA CPB LDA LDB STA STB
 abbrev pub memoryWay : Operation → Way
@@ -115,11 +112,6 @@ bytesAct Sbt r = byteStored r
 bytesAct Mbt r = moveAct Element.Byte r
 bytesAct Cbt r = compareAct Element.Byte r
 
-abbrev pub bitsMask : Bits → Mask
-bitsMask Sbs = Mask.Setting
-bitsMask Cbs = Mask.Clearing
-bitsMask Tbs = Mask.Testing
-
 abbrev pub wordsAct : Words → Registers → Act
 wordsAct Cmw r = compareAct Element.Word r
 wordsAct Mvw r = moveAct Element.Word r
@@ -130,7 +122,7 @@ extendedAct (Extended.Transfer x g i) r = transferAct x g i r
 extendedAct (Extended.Indexing x i) r = indexingAct x i r
 extendedAct (Extended.Arithmetic x) r = atOperand (arithmeticWay x) r
 extendedAct (Extended.Bytes x) r = bytesAct x r
-extendedAct (Extended.Bits x) r = maskAct (bitsMask x) r
+extendedAct (Extended.Bits x) r = maskAct x r
 extendedAct (Extended.Words x) r = wordsAct x r
 
 abbrev pub rule : Instruction → Registers → Act

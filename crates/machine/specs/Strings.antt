@@ -21,8 +21,10 @@ use Rattle.maps.specs.Bytes.{byteWord, isLowByte}
 use Rattle.maps.specs.declared.pages.Map.{Map}
 use Rattle.maps.specs.declared.pages.Map.the-variants.{Execute}
 use Rattle.maps.specs.declared.pages.Purpose.{Purpose}
+use Rattle.code.specs.declared.codes.Bits.{Bits}
+use Rattle.code.specs.declared.codes.Bits.the-variants.{Sbs, Cbs, Tbs}
 use Rattle.machine.specs.Record.{withA, withB}
-use Rattle.machine.specs.Acts.{Act, fin, stop, load, save, follow, opened, present, done, exec, answer, Performs}
+use Rattle.machine.specs.Acts.{Act, fin, stop, load, save, opened, present, operand, done, exec, answer, troubled}
 use Rattle.machine.specs.Ways.{ahead, goOn}
 use Rattle.machine.specs.declared.record.Registers.{Registers}
 use Rattle.machine.specs.declared.replies.Reply.{Reply}
@@ -31,8 +33,6 @@ use Rattle.machine.specs.declared.strings.Pair.{Pair}
 use Rattle.machine.specs.declared.strings.Found.{Found}
 use Rattle.machine.specs.declared.strings.Element.{Element}
 use Rattle.machine.specs.declared.strings.Element.the-variants.{Word, Byte}
-use Rattle.machine.specs.declared.strings.Mask.{Mask}
-use Rattle.machine.specs.declared.strings.Mask.the-variants.{Setting, Clearing, Testing}
 
 -- 01: "Word addresses keep 15 bits .., byte addresses 16."
 abbrev pub wordAt : Element → ℕ → ℕ
@@ -117,13 +117,13 @@ comparing u end s d (suc n) =
 -- what the functions of `src/strings.rt` promise of one pair, however the comparison goes on, and of what a comparison found
 unfoldable pub Compares : List ℕ → Element → ℕ → ℕ → Registers → List ℕ → Pair → Type 0
 Compares pages u s d r m (Pair.Ordered o) = (k : Order → Act) → exec pages (pairing u s d k) r m ≡ exec pages (k o) r m
-Compares pages u s d r m (Pair.Ends e) = (k : Order → Act) → Performs pages (pairing u s d k) r m e m
+Compares pages u s d r m (Pair.Ends t) = (k : Order → Act) → exec pages (pairing u s d k) r m ≡ troubled t
 
 abbrev pub concluded : Found → ℕ → Registers → Stepped
 concluded (Found.Equal at) end r = answer r (done (compared 3 at end r) [])
 concluded (Found.Smaller at) end r = answer r (done (compared 4 at end r) [])
 concluded (Found.Greater at) end r = answer r (done (compared 5 at end r) [])
-concluded (Found.Ends e) end r = e
+concluded (Found.Ends t) end r = answer r (troubled t)
 
 -- 01, LBT and SBT: "byte address in B, even is the high byte; B rises by one. LBT clears A's high byte."
 abbrev pub byteLoaded : Registers → Act
@@ -135,16 +135,15 @@ byteStored r =
     (opened Execute Purpose.Both (wordAt Byte (r .b))
     (saving Byte Execute (r .b) (r .a % 256) (fin (λ t. ahead 1 (withB t (along Byte (r .b) 1))))))
 
--- the word that follows the instruction's first by n, and its chain
-abbrev pub operand : ℕ → Registers → (ℕ → Act) → Act
-operand n r k = load Execute (address (r .p) n) (λ w. follow w k)
-
 -- 01: "word two addresses the count, word three is neither read nor written .. Count 0 or with bit 15 set: only P moves, by 3."
 abbrev pub noneToDo : ℕ → Bool
 noneToDo c = eqb c 0 || bit 15 c
 
+abbrev pub count : Registers → (ℕ → Act) → Act
+count r k = operand 1 r (λ m. load Execute m k)
+
 abbrev pub counted : Registers → (ℕ → Act) → Act
-counted r k = operand 1 r (λ m. load Execute m (λ c. cond (noneToDo c) (goOn (address (r .p) 3)) (k c)))
+counted r k = count r (λ c. cond (noneToDo c) (goOn (address (r .p) 3)) (k c))
 
 abbrev pub moveAct : Element → Registers → Act
 moveAct u r =
@@ -155,10 +154,10 @@ abbrev pub compareAct : Element → Registers → Act
 compareAct u r = counted r (λ c. comparing u (along u (r .b) c) (along u (r .a) 0) (along u (r .b) 0) c)
 
 -- 01: "SBS, CBS, TBS: word two addresses the mask, word three the target. TBS skips unless every masked bit is set."
-abbrev pub masked : Mask → Registers → ℕ → ℕ → ℕ → Act
-masked Setting r mask w at = save Execute at (bitOr w mask) (goOn (address (r .p) 3))
-masked Clearing r mask w at = save Execute at (bitsCleared mask w) (goOn (address (r .p) 3))
-masked Testing r mask w at = goOn (address (r .p) (3 + weight (not (everyBitSet mask w))))
+abbrev pub masked : Bits → Registers → ℕ → ℕ → ℕ → Act
+masked Sbs r mask w at = save Execute at (bitOr w mask) (goOn (address (r .p) 3))
+masked Cbs r mask w at = save Execute at (bitsCleared mask w) (goOn (address (r .p) 3))
+masked Tbs r mask w at = goOn (address (r .p) (3 + weight (not (everyBitSet mask w))))
 
-abbrev pub maskAct : Mask → Registers → Act
+abbrev pub maskAct : Bits → Registers → Act
 maskAct x r = operand 1 r (λ m. operand 2 r (λ at. load Execute m (λ mask. load Execute at (λ w. masked x r mask w at))))

@@ -1,22 +1,23 @@
 // The instructions that touch no memory: shift/rotate, alter/skip, long shifts, index registers, I/O.
+use crate::record::Registers;
+use crate::record::go_ahead;
+use crate::record::go_skipping;
+use crate::record::index;
+use crate::record::register;
+use crate::record::set_index;
+use crate::record::set_register;
+use crate::replies::Reply;
+use crate::replies::Stepped;
+use crate::replies::Trouble;
+use crate::replies::completed;
+use crate::replies::stop_by;
+use crate::ways::set_flags;
 use code::codes::Index;
 use code::codes::Register;
 use code::instructions::Alter;
 use code::instructions::AlterSkip;
 use code::instructions::IoOperation;
 use code::instructions::ShiftRotate;
-use crate::record::Registers;
-use crate::record::go_ahead;
-use crate::record::go_skipping;
-use crate::record::index;
-use crate::record::interrupt;
-use crate::record::register;
-use crate::record::set_index;
-use crate::record::set_register;
-use crate::replies::Reply;
-use crate::replies::Stepped;
-use crate::replies::completed;
-use crate::ways::set_flags;
 use word::bits::complement;
 use word::long::LongShift;
 use word::long::long_shift;
@@ -282,10 +283,7 @@ pub fn input_output(io: IoOperation, bit11: bool, bit9: bool, select: u16, r: Re
     ensures { λ s. ⌜ PerformsAlone (ioAct io bit11 bit9 select r) r s ⌝ }
 {
     if high_bit(r.wmap) & (is_halt(io) | (select != 1)) {
-        return Stepped {
-            reply: Reply::Violation,
-            registers: interrupt(r),
-        };
+        return stop_by(Trouble::Violation, r);
     }
     if select == 1 {
         return panel(io, bit11, bit9, r);

@@ -1,6 +1,7 @@
 pub mod group;
 pub mod memory;
 pub mod moves;
+pub mod reads;
 pub mod record;
 pub mod replies;
 pub mod run;

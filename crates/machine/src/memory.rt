@@ -1,28 +1,25 @@
 // Memory reference: the address word that an instruction makes, the way it goes, and a trap cell.
-use code::codes::Register;
-use code::instructions::Operation;
+use crate::reads::Got;
+use crate::reads::get_target;
 use crate::record::Registers;
-use crate::record::go_to;
-use crate::record::interrupt;
-use crate::record::set_register;
 use crate::replies::Reply;
 use crate::replies::Stepped;
 use crate::replies::completed;
 use crate::replies::refuse;
+use crate::replies::stop_by;
 use crate::ways::Source;
 use crate::ways::Taking;
 use crate::ways::Way;
-use crate::ways::at_chain;
-use maps::access::store_word;
-use maps::chains::Chain;
+use crate::ways::at_address;
+use crate::ways::put_last;
+use code::codes::Register;
+use code::instructions::Operation;
 use maps::pages::Map;
-use maps::pages::Place;
 use word::bits::weight_of;
 use word::sums::past;
 ghost use mathlib.Core.Path.{_≡_};
-ghost use Rattle.word.specs.Sums.{address};
 ghost use Rattle.machine.specs.Record.{withP, withTrap};
-ghost use Rattle.machine.specs.Acts.{Performs, Ends, exec, onChain, fin, save, follow};
+ghost use Rattle.machine.specs.Acts.{Performs, follow};
 ghost use Rattle.machine.specs.Ways.{wayAct};
 ghost use Rattle.machine.specs.Rules.{memoryWay, memoryWord, trapWay};
 
@@ -69,8 +66,10 @@ pub fn memory_reference(
 ) -> Stepped
     ensures { λ s. ⌜ Performs (now (pages .entry)) (follow word (λ m. wayAct way r m 1)) r (now (memory .entry)) s (now (memory .exit)) ⌝ }
 {
-    let chain = maps::chains::follow(pages, memory, r.wmap, word, r.a, r.b);
-    at_chain(chain, way, 1, r, pages, memory)
+    match get_target(word, r, pages, memory) {
+        Got::Value(at) => at_address(way, at, 1, r, pages, memory),
+        Got::Ends(t) => stop_by(t, r),
+    }
 }
 
 // P goes on elsewhere, and no trap waits.
@@ -83,63 +82,25 @@ fn leave_trap(to: u16, r: Registers) -> Registers
     s
 }
 
-// The trap cell's JSB at its address: P itself is stored.
-fn trap_saving(at: u16, r: Registers, pages: &[u16], memory: &mut [u16]) -> Stepped
-    ensures { λ s. ⌜ Performs (now (pages .entry)) (save Map.Execute at (r .p) (fin (λ t. withTrap (withP t (address at 1)) 0))) r (now (memory .entry)) s (now (memory .exit)) ⌝ }
-{
-    let to = past(at, 1);
-    match store_word(pages, memory, r.wmap, Map::Execute, at, r.p) {
-        Place::A => completed(leave_trap(to, set_register(Register::A, r, r.p))),
-        Place::B => completed(leave_trap(to, set_register(Register::B, r, r.p))),
-        Place::Memory(_) => completed(leave_trap(to, r)),
-        Place::Closed => Stepped {
-            reply: Reply::Violation,
-            registers: interrupt(r),
-        },
-        Place::Absent(_) => Stepped {
-            reply: Reply::Absent,
-            registers: r,
-        },
-    }
-}
-
 fn trap_jump(word: u16, r: Registers, pages: &[u16], memory: &[u16]) -> Stepped
     ensures { λ s. ⌜ Performs (now (pages .entry)) (trapWay Way.Jump r word) r (now (memory .entry)) s (now (memory .entry)) ⌝ }
 {
-    match maps::chains::follow(pages, memory, r.wmap, word, r.a, r.b) {
-        Chain::Address(at) => completed(leave_trap(at, r)),
-        Chain::Endless => Stepped {
-            reply: Reply::Endless,
-            registers: r,
-        },
-        Chain::Closed => Stepped {
-            reply: Reply::Violation,
-            registers: interrupt(r),
-        },
-        Chain::Absent(_) => Stepped {
-            reply: Reply::Absent,
-            registers: r,
-        },
+    match get_target(word, r, pages, memory) {
+        Got::Value(at) => completed(leave_trap(at, r)),
+        Got::Ends(t) => stop_by(t, r),
     }
 }
 
+// The trap cell's JSB: P itself is stored.
 fn trap_jump_saving(word: u16, r: Registers, pages: &[u16], memory: &mut [u16]) -> Stepped
     ensures { λ s. ⌜ Performs (now (pages .entry)) (trapWay Way.JumpSaving r word) r (now (memory .entry)) s (now (memory .exit)) ⌝ }
 {
-    match maps::chains::follow(pages, memory, r.wmap, word, r.a, r.b) {
-        Chain::Address(at) => trap_saving(at, r, pages, memory),
-        Chain::Endless => Stepped {
-            reply: Reply::Endless,
-            registers: r,
-        },
-        Chain::Closed => Stepped {
-            reply: Reply::Violation,
-            registers: interrupt(r),
-        },
-        Chain::Absent(_) => Stepped {
-            reply: Reply::Absent,
-            registers: r,
-        },
+    match get_target(word, r, pages, memory) {
+        Got::Value(at) => {
+            let s = leave_trap(past(at, 1), r);
+            put_last(r.p, Map::Execute, at, s, r, pages, memory)
+        }
+        Got::Ends(t) => stop_by(t, r),
     }
 }
 

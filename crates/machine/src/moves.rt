@@ -1,17 +1,18 @@
 // MVW and MBT after their count was read: the tests of both ranges, then one element after another.
-use code::codes::Register;
+use crate::reads::Got;
 use crate::record::Registers;
 use crate::record::go_ahead;
-use crate::record::interrupt;
 use crate::record::set_register;
-use crate::replies::Reply;
 use crate::replies::Stepped;
+use crate::replies::Trouble;
 use crate::replies::completed;
+use crate::replies::stop_by;
 use crate::strings::Element;
-use crate::strings::Got;
 use crate::strings::count_at;
 use crate::strings::go_along;
+use crate::strings::is_none;
 use crate::strings::word_at;
+use code::codes::Register;
 use maps::pages::Map;
 use maps::pages::Place;
 use maps::pages::Presence;
@@ -289,22 +290,13 @@ fn move_then(
     ensures { λ t. ⌜ ((f : Registers → Registers) → f r ≡ after → Performs (now (pages .entry)) (moved u from to s d n (fin f)) r (now (memory .entry)) t (now (memory .exit))) ⌝ }
 {
     if touches_range(u, from, s, n) | touches_range(u, to, d, n) {
-        return Stepped {
-            reply: Reply::InRegisters,
-            registers: r,
-        };
+        return stop_by(Trouble::InRegisters, r);
     }
     if !ranges_open(u, from, to, s, d, n, r, pages) {
-        return Stepped {
-            reply: Reply::Violation,
-            registers: interrupt(r),
-        };
+        return stop_by(Trouble::Violation, r);
     }
     match ranges_present(u, from, to, s, d, n, r, pages, memory) {
-        Presence::Absent(_) => Stepped {
-            reply: Reply::Absent,
-            registers: r,
-        },
+        Presence::Absent(_) => stop_by(Trouble::Absent, r),
         Presence::Present => {
             copy_elements(u, from, to, s, d, n, r, pages, memory);
             completed(after)
@@ -336,17 +328,12 @@ pub fn move_string(u: Element, r: Registers, pages: &[u16], memory: &mut [u16]) 
     ensures { λ s. ⌜ Performs (now (pages .entry)) (moveAct u r) r (now (memory .entry)) s (now (memory .exit)) ⌝ }
 {
     match count_at(r, pages, memory) {
-        Got::Value(n) => move_elements(
-            u,
-            Map::Execute,
-            Map::Execute,
-            r.a,
-            r.b,
-            n,
-            r,
-            pages,
-            memory,
-        ),
-        Got::Ends(s) => s,
+        Got::Value(n) => {
+            if is_none(n) {
+                return completed(go_ahead(3, r));
+            }
+            move_elements(u, Map::Execute, Map::Execute, r.a, r.b, n, r, pages, memory)
+        }
+        Got::Ends(t) => stop_by(t, r),
     }
 }

@@ -1,6 +1,8 @@
 // What a step replies. The paper's numbers are in specs/Replies.
 use crate::record::Registers;
+use crate::record::interrupt;
 ghost use mathlib.Core.Path.{_≡_};
+ghost use Rattle.machine.specs.Acts.{answer, troubled};
 
 pub enum Reply {
     Completed,
@@ -42,5 +44,25 @@ pub fn refuse(reply: Reply, r: Registers) -> Stepped
     Stepped {
         reply: reply,
         registers: r,
+    }
+}
+
+// What ends a step while it has changed nothing.
+pub enum Trouble {
+    Violation,
+    Endless,
+    Absent,
+    InRegisters,
+}
+
+// The step has ended: a violation interrupts, any other trouble leaves the registers as given.
+pub fn stop_by(t: Trouble, r: Registers) -> Stepped
+    ensures { λ s. ⌜ s ≡ answer r (troubled t) ⌝ }
+{
+    match t {
+        Trouble::Violation => refuse(Reply::Violation, interrupt(r)),
+        Trouble::Endless => refuse(Reply::Endless, r),
+        Trouble::Absent => refuse(Reply::Absent, r),
+        Trouble::InRegisters => refuse(Reply::InRegisters, r),
     }
 }

@@ -1,4 +1,37 @@
 // One step: the call, the fetch, and what was read.
+use crate::group::alter_skip;
+use crate::group::copy_from_index;
+use crate::group::copy_to_index;
+use crate::group::exchange;
+use crate::group::input_output;
+use crate::group::long_rotate;
+use crate::group::shift_rotate;
+use crate::group::step_index;
+use crate::memory::memory_reference;
+use crate::memory::memory_way;
+use crate::memory::memory_word;
+use crate::memory::trap_reference;
+use crate::moves::move_string;
+use crate::reads::Got;
+use crate::reads::get_address;
+use crate::reads::get_word;
+use crate::record::Registers;
+use crate::record::index;
+use crate::replies::Reply;
+use crate::replies::Stepped;
+use crate::replies::Trouble;
+use crate::replies::completed;
+use crate::replies::refuse;
+use crate::replies::stop_by;
+use crate::strings::Element;
+use crate::strings::compare;
+use crate::strings::load_byte;
+use crate::strings::mask_bits;
+use crate::strings::store_byte;
+use crate::ways::Source;
+use crate::ways::Taking;
+use crate::ways::Way;
+use crate::ways::at_address;
 use code::codes::Arithmetic;
 use code::codes::Bits;
 use code::codes::Bytes;
@@ -11,41 +44,8 @@ use code::codes::Register;
 use code::codes::Transfer;
 use code::codes::Words;
 use code::codes::is_privileged;
-use crate::group::alter_skip;
-use crate::group::copy_from_index;
-use crate::group::copy_to_index;
-use crate::group::exchange;
-use crate::group::input_output;
-use crate::group::long_rotate;
-use crate::group::shift_rotate;
-use crate::group::step_index;
 use code::instructions::Instruction;
 use code::instructions::read_instruction;
-use crate::memory::memory_reference;
-use crate::memory::memory_way;
-use crate::memory::memory_word;
-use crate::memory::trap_reference;
-use crate::moves::move_string;
-use crate::record::Registers;
-use crate::record::index;
-use crate::record::interrupt;
-use crate::replies::Reply;
-use crate::replies::Stepped;
-use crate::replies::completed;
-use crate::replies::refuse;
-use crate::strings::Element;
-use crate::strings::Mask;
-use crate::strings::address_at;
-use crate::strings::compare;
-use crate::strings::load_byte;
-use crate::strings::mask_bits;
-use crate::strings::store_byte;
-use crate::ways::Source;
-use crate::ways::Taking;
-use crate::ways::Way;
-use crate::ways::at_chain;
-use maps::access::Fetched;
-use maps::access::read_word;
 use maps::pages::Map;
 use word::sums::decrement;
 use word::sums::increment;
@@ -55,7 +55,8 @@ ghost use Rattle.maps.specs.Pages.{protecting};
 ghost use Rattle.machine.specs.Acts.{Performs, violate, stop};
 ghost use Rattle.machine.specs.Group.{PerformsAlone};
 ghost use Rattle.code.specs.Codes.{privileged};
-ghost use Rattle.machine.specs.Rules.{dataMap, arithmeticWay, crossWay, bitsMask, atOperand};
+ghost use Rattle.code.specs.Instructions.{reading};
+ghost use Rattle.machine.specs.Rules.{dataMap, arithmeticWay, crossWay, atOperand};
 ghost use Rattle.machine.specs.Rules.{transferAct, indexingAct, bytesAct, wordsAct, extendedAct};
 ghost use Rattle.machine.specs.Rules.{rule, trapRule, stepAct};
 ghost use Rattle.machine.specs.Record.{valid};
@@ -91,22 +92,14 @@ fn cross_way(x: Cross, g: Register, d: Data) -> Way
     }
 }
 
-fn bits_mask(x: Bits) -> Mask
-    ensures { λ r. ⌜ r ≡ bitsMask x ⌝ }
-{
-    match x {
-        Bits::Sbs => Mask::Setting,
-        Bits::Cbs => Mask::Clearing,
-        Bits::Tbs => Mask::Testing,
-    }
-}
-
 // A two-word instruction goes its way at the address that its second word leads to.
 fn at_operand(way: Way, r: Registers, pages: &[u16], memory: &mut [u16]) -> Stepped
     ensures { λ s. ⌜ Performs (now (pages .entry)) (atOperand way r) r (now (memory .entry)) s (now (memory .exit)) ⌝ }
 {
-    let chain = address_at(1, r, pages, memory);
-    at_chain(chain, way, 2, r, pages, memory)
+    match get_address(1, r, pages, memory) {
+        Got::Value(at) => at_address(way, at, 2, r, pages, memory),
+        Got::Ends(t) => stop_by(t, r),
+    }
 }
 
 fn transfer(
@@ -179,7 +172,7 @@ fn extended(x: Extended, r: Registers, pages: &[u16], memory: &mut [u16]) -> Ste
         Extended::Indexing(t, i) => indexing(t, i, r, pages, memory),
         Extended::Arithmetic(t) => at_operand(arithmetic_way(t), r, pages, memory),
         Extended::Bytes(t) => bytes(t, r, pages, memory),
-        Extended::Bits(t) => mask_bits(bits_mask(t), r, pages, memory),
+        Extended::Bits(t) => mask_bits(t, r, pages, memory),
         Extended::Words(t) => words(t, r, pages, memory),
     }
 }
@@ -189,27 +182,24 @@ fn not_built(w: u16, r: Registers) -> Stepped
     ensures { λ s. ⌜ PerformsAlone (cond (protecting (r .wmap) && privileged w) violate (stop Reply.NotBuilt)) r s ⌝ }
 {
     if (r.wmap / 0o100000 % 2 == 1) & is_privileged(w) {
-        return Stepped {
-            reply: Reply::Violation,
-            registers: interrupt(r),
-        };
+        return stop_by(Trouble::Violation, r);
     }
     refuse(Reply::NotBuilt, r)
 }
 
-// What was read is carried out.
-fn carry_out(i: Instruction, r: Registers, pages: &[u16], memory: &mut [u16]) -> Stepped
-    ensures { λ s. ⌜ Performs (now (pages .entry)) (rule i r) r (now (memory .entry)) s (now (memory .exit)) ⌝ }
+// The word that was fetched is read and carried out.
+fn carry_out(word: u16, r: Registers, pages: &[u16], memory: &mut [u16]) -> Stepped
+    ensures { λ s. ⌜ Performs (now (pages .entry)) (rule (reading word) r) r (now (memory .entry)) s (now (memory .exit)) ⌝ }
 {
-    match i {
+    match read_instruction(word) {
         Instruction::MemoryReference {
             operation,
             indirect,
             current,
             offset,
         } => {
-            let word = memory_word(indirect, current, offset, r.p);
-            memory_reference(memory_way(operation), word, r, pages, memory)
+            let address = memory_word(indirect, current, offset, r.p);
+            memory_reference(memory_way(operation), address, r, pages, memory)
         }
         Instruction::ShiftRotate(fields) => completed(shift_rotate(fields, r)),
         Instruction::AlterSkip(fields) => completed(alter_skip(fields, r)),
@@ -226,18 +216,18 @@ fn carry_out(i: Instruction, r: Registers, pages: &[u16], memory: &mut [u16]) ->
 }
 
 // The word of a trap cell.
-fn carry_out_trap(i: Instruction, r: Registers, pages: &[u16], memory: &mut [u16]) -> Stepped
-    ensures { λ s. ⌜ Performs (now (pages .entry)) (trapRule i r) r (now (memory .entry)) s (now (memory .exit)) ⌝ }
+fn carry_out_trap(word: u16, r: Registers, pages: &[u16], memory: &mut [u16]) -> Stepped
+    ensures { λ s. ⌜ Performs (now (pages .entry)) (trapRule (reading word) r) r (now (memory .entry)) s (now (memory .exit)) ⌝ }
 {
-    match i {
+    match read_instruction(word) {
         Instruction::MemoryReference {
             operation,
             indirect,
             current,
             offset,
         } => {
-            let word = memory_word(indirect, current, offset, 0);
-            trap_reference(operation, word, r, pages, memory)
+            let address = memory_word(indirect, current, offset, 0);
+            trap_reference(operation, address, r, pages, memory)
         }
         Instruction::ShiftRotate(_) => refuse(Reply::TrapCell, r),
         Instruction::AlterSkip(_) => refuse(Reply::TrapCell, r),
@@ -253,22 +243,14 @@ pub fn fetch(r: Registers, pages: &[u16], memory: &mut [u16]) -> Stepped
     ensures { λ s. ⌜ Performs (now (pages .entry)) (stepAct r) r (now (memory .entry)) s (now (memory .exit)) ⌝ }
 {
     if r.trap == 0 {
-        return match read_word(pages, memory, r.wmap, Map::Execute, r.p, r.a, r.b) {
-            Fetched::Word(w) => carry_out(read_instruction(w), r, pages, memory),
-            Fetched::Closed => Stepped {
-                reply: Reply::Violation,
-                registers: interrupt(r),
-            },
-            Fetched::Absent(_) => refuse(Reply::Absent, r),
+        return match get_word(Map::Execute, r.p, r, pages, memory) {
+            Got::Value(word) => carry_out(word, r, pages, memory),
+            Got::Ends(t) => stop_by(t, r),
         };
     }
-    match read_word(pages, memory, r.wmap, Map::Execute, r.trap, r.a, r.b) {
-        Fetched::Word(w) => carry_out_trap(read_instruction(w), r, pages, memory),
-        Fetched::Closed => Stepped {
-            reply: Reply::Violation,
-            registers: interrupt(r),
-        },
-        Fetched::Absent(_) => refuse(Reply::Absent, r),
+    match get_word(Map::Execute, r.trap, r, pages, memory) {
+        Got::Value(word) => carry_out_trap(word, r, pages, memory),
+        Got::Ends(t) => stop_by(t, r),
     }
 }
 

@@ -1,21 +1,21 @@
 // Words and bytes, single and in strings, and the masks; the address words of an instruction.
-use code::codes::Register;
+use crate::reads::Got;
+use crate::reads::get_address;
+use crate::reads::get_word;
 use crate::record::Registers;
 use crate::record::go_ahead;
 use crate::record::go_to;
-use crate::record::interrupt;
 use crate::record::set_register;
 use crate::record::skipping;
-use crate::replies::Reply;
 use crate::replies::Stepped;
+use crate::replies::Trouble;
 use crate::replies::completed;
+use crate::replies::stop_by;
 use crate::ways::put;
-use maps::access::Fetched;
-use maps::access::read_word;
+use code::codes::Bits;
+use code::codes::Register;
 use maps::bytes::byte_word;
 use maps::bytes::is_low_byte;
-use maps::chains::Chain;
-use maps::chains::follow;
 use maps::pages::Map;
 use maps::pages::Place;
 use maps::pages::Purpose;
@@ -30,28 +30,15 @@ use word::orders::compare_bytes;
 use word::orders::compare_words;
 use word::sums::past;
 ghost use mathlib.Core.Path.{_≡_};
-ghost use Rattle.machine.specs.Acts.{load, chainAt, Performs, Gives};
+ghost use Rattle.machine.specs.Acts.{load, Performs, Gives};
 ghost use Rattle.machine.specs.Strings.{wordAt, along, valueOf, orderOf, loadElement, compared, comparing};
-ghost use Rattle.machine.specs.Strings.{Compares, concluded, byteLoaded, byteStored, operand, noneToDo, counted};
+ghost use Rattle.machine.specs.Strings.{Compares, concluded, byteLoaded, byteStored, noneToDo, count};
 ghost use Rattle.machine.specs.Strings.{compareAct, masked, maskAct};
 
 // What a string is made of.
 pub enum Element {
     Word,
     Byte,
-}
-
-// SBS, CBS, TBS.
-pub enum Mask {
-    Setting,
-    Clearing,
-    Testing,
-}
-
-// What was read, or how the step has ended.
-pub enum Got {
-    Value(u16),
-    Ends(Stepped),
 }
 
 // The address of the word that holds an element.
@@ -74,91 +61,31 @@ pub fn go_along(u: Element, at: u16, n: u16) -> u16
     }
 }
 
-// Where the word leads that follows the instruction's first by n.
-pub fn address_at(n: u16, r: Registers, pages: &[u16], memory: &[u16]) -> Chain
-    ensures { λ s. ⌜ s ≡ chainAt (now (pages .entry)) r (now (memory .entry)) n ⌝ }
-{
-    match read_word(pages, memory, r.wmap, Map::Execute, past(r.p, n), r.a, r.b) {
-        Fetched::Word(w) => follow(pages, memory, r.wmap, w, r.a, r.b),
-        Fetched::Closed => Chain::Closed,
-        Fetched::Absent(page) => Chain::Absent(page),
-    }
-}
-
-// The same address, or how the step has ended.
-pub fn get_address(n: u16, r: Registers, pages: &[u16], memory: &[u16]) -> Got
-    ensures { λ g. ⌜ Gives (now (pages .entry)) (operand n r) r (now (memory .entry)) g ⌝ }
-{
-    match address_at(n, r, pages, memory) {
-        Chain::Address(at) => Got::Value(at),
-        Chain::Endless => Got::Ends(Stepped {
-            reply: Reply::Endless,
-            registers: r,
-        }),
-        Chain::Closed => Got::Ends(Stepped {
-            reply: Reply::Violation,
-            registers: interrupt(r),
-        }),
-        Chain::Absent(_) => Got::Ends(Stepped {
-            reply: Reply::Absent,
-            registers: r,
-        }),
-    }
-}
-
-// The word at an address of the Execute map.
-pub fn get_word(at: u16, r: Registers, pages: &[u16], memory: &[u16]) -> Got
-    ensures { λ g. ⌜ Gives (now (pages .entry)) (load Map.Execute at) r (now (memory .entry)) g ⌝ }
-{
-    match read_word(pages, memory, r.wmap, Map::Execute, at, r.a, r.b) {
-        Fetched::Word(w) => Got::Value(w),
-        Fetched::Closed => Got::Ends(Stepped {
-            reply: Reply::Violation,
-            registers: interrupt(r),
-        }),
-        Fetched::Absent(_) => Got::Ends(Stepped {
-            reply: Reply::Absent,
-            registers: r,
-        }),
-    }
-}
-
 // The word that holds an element, which may not be A or B.
 pub fn get_element(u: Element, at: u16, r: Registers, pages: &[u16], memory: &[u16]) -> Got
     ensures { λ g. ⌜ Gives (now (pages .entry)) (loadElement u at) r (now (memory .entry)) g ⌝ }
 {
     let holder = word_at(u, at);
     if is_register(Map::Execute, holder) {
-        return Got::Ends(Stepped {
-            reply: Reply::InRegisters,
-            registers: r,
-        });
+        return Got::Ends(Trouble::InRegisters);
     }
-    get_word(holder, r, pages, memory)
+    get_word(Map::Execute, holder, r, pages, memory)
 }
 
 // Whether a count is 0 or has bit 15 set.
-fn is_none(count: u16) -> bool
+pub fn is_none(count: u16) -> bool
     ensures { λ n. ⌜ n ≡ noneToDo count ⌝ }
 {
     count == 0 || count / 32768 % 2 == 1
 }
 
-// The count of a string instruction. With none to do the step has ended, P moved by 3.
+// The count of a string instruction.
 pub fn count_at(r: Registers, pages: &[u16], memory: &[u16]) -> Got
-    ensures { λ g. ⌜ Gives (now (pages .entry)) (counted r) r (now (memory .entry)) g ⌝ }
+    ensures { λ g. ⌜ Gives (now (pages .entry)) (count r) r (now (memory .entry)) g ⌝ }
 {
     match get_address(1, r, pages, memory) {
-        Got::Value(at) => match get_word(at, r, pages, memory) {
-            Got::Value(count) => {
-                if is_none(count) {
-                    return Got::Ends(completed(go_ahead(3, r)));
-                }
-                Got::Value(count)
-            }
-            Got::Ends(s) => Got::Ends(s),
-        },
-        Got::Ends(s) => Got::Ends(s),
+        Got::Value(at) => get_word(Map::Execute, at, r, pages, memory),
+        Got::Ends(t) => Got::Ends(t),
     }
 }
 
@@ -175,7 +102,7 @@ pub fn load_byte(r: Registers, pages: &[u16], memory: &[u16]) -> Stepped
                 set_register(Register::B, loaded, go_along(Element::Byte, r.b, 1)),
             ))
         }
-        Got::Ends(s) => s,
+        Got::Ends(t) => stop_by(t, r),
     }
 }
 
@@ -192,14 +119,8 @@ pub fn store_byte(r: Registers, pages: &[u16], memory: &mut [u16]) -> Stepped
         holder,
         memory.len(),
     ) {
-        Place::A => Stepped {
-            reply: Reply::InRegisters,
-            registers: r,
-        },
-        Place::B => Stepped {
-            reply: Reply::InRegisters,
-            registers: r,
-        },
+        Place::A => stop_by(Trouble::InRegisters, r),
+        Place::B => stop_by(Trouble::InRegisters, r),
         Place::Memory(index) => {
             memory[index] = with_byte(is_low_byte(r.b), memory[index], (r.a % 256) as u8);
             completed(go_ahead(
@@ -207,21 +128,15 @@ pub fn store_byte(r: Registers, pages: &[u16], memory: &mut [u16]) -> Stepped
                 set_register(Register::B, r, go_along(Element::Byte, r.b, 1)),
             ))
         }
-        Place::Closed => Stepped {
-            reply: Reply::Violation,
-            registers: interrupt(r),
-        },
-        Place::Absent(_) => Stepped {
-            reply: Reply::Absent,
-            registers: r,
-        },
+        Place::Closed => stop_by(Trouble::Violation, r),
+        Place::Absent(_) => stop_by(Trouble::Absent, r),
     }
 }
 
-// How one pair compares, or how the step has ended.
+// How one pair compares, or what ends the step.
 pub enum Pair {
     Ordered(Order),
-    Ends(Stepped),
+    Ends(Trouble),
 }
 
 // Where a comparison ends: no difference, or its place in the first array.
@@ -229,7 +144,7 @@ pub enum Found {
     Equal(u16),
     Smaller(u16),
     Greater(u16),
-    Ends(Stepped),
+    Ends(Trouble),
 }
 
 // The order of the elements at s and d, whose words are v and w.
@@ -262,7 +177,7 @@ fn conclude(found: Found, end: u16, r: Registers) -> Stepped
         Found::Equal(at) => completed(end_comparison(3, at, end, r)),
         Found::Smaller(at) => completed(end_comparison(4, at, end, r)),
         Found::Greater(at) => completed(end_comparison(5, at, end, r)),
-        Found::Ends(s) => s,
+        Found::Ends(t) => stop_by(t, r),
     }
 }
 
@@ -302,7 +217,7 @@ pub fn compare_strings(
                     left -= 1;
                 }
             },
-            Pair::Ends(s) => break Found::Ends(s),
+            Pair::Ends(t) => break Found::Ends(t),
         }
     };
     conclude(found, go_along(u, r.b, count), r)
@@ -313,38 +228,43 @@ pub fn compare(u: Element, r: Registers, pages: &[u16], memory: &[u16]) -> Stepp
     ensures { λ s. ⌜ Performs (now (pages .entry)) (compareAct u r) r (now (memory .entry)) s (now (memory .entry)) ⌝ }
 {
     match count_at(r, pages, memory) {
-        Got::Value(count) => compare_strings(u, count, r, pages, memory),
-        Got::Ends(s) => s,
+        Got::Value(n) => {
+            if is_none(n) {
+                return completed(go_ahead(3, r));
+            }
+            compare_strings(u, n, r, pages, memory)
+        }
+        Got::Ends(t) => stop_by(t, r),
     }
 }
 
 // SBS, CBS and TBS: the address of the mask, that of the target, the mask, the target.
-pub fn mask_bits(x: Mask, r: Registers, pages: &[u16], memory: &mut [u16]) -> Stepped
+pub fn mask_bits(x: Bits, r: Registers, pages: &[u16], memory: &mut [u16]) -> Stepped
     ensures { λ s. ⌜ Performs (now (pages .entry)) (maskAct x r) r (now (memory .entry)) s (now (memory .exit)) ⌝ }
 {
     match get_address(1, r, pages, memory) {
         Got::Value(m) => match get_address(2, r, pages, memory) {
             Got::Value(at) => mask_word(x, m, at, r, pages, memory),
-            Got::Ends(s) => s,
+            Got::Ends(t) => stop_by(t, r),
         },
-        Got::Ends(s) => s,
+        Got::Ends(t) => stop_by(t, r),
     }
 }
 
-fn mask_word(x: Mask, m: u16, at: u16, r: Registers, pages: &[u16], memory: &mut [u16]) -> Stepped
+fn mask_word(x: Bits, m: u16, at: u16, r: Registers, pages: &[u16], memory: &mut [u16]) -> Stepped
     ensures { λ s. ⌜ Performs (now (pages .entry)) (load Map.Execute m (λ mask. load Map.Execute at (λ w. masked x r mask w at))) r (now (memory .entry)) s (now (memory .exit)) ⌝ }
 {
-    match get_word(m, r, pages, memory) {
-        Got::Value(mask) => match get_word(at, r, pages, memory) {
+    match get_word(Map::Execute, m, r, pages, memory) {
+        Got::Value(mask) => match get_word(Map::Execute, at, r, pages, memory) {
             Got::Value(w) => put_masked(x, mask, w, at, r, pages, memory),
-            Got::Ends(s) => s,
+            Got::Ends(t) => stop_by(t, r),
         },
-        Got::Ends(s) => s,
+        Got::Ends(t) => stop_by(t, r),
     }
 }
 
 fn put_masked(
-    x: Mask,
+    x: Bits,
     mask: u16,
     w: u16,
     at: u16,
@@ -354,18 +274,11 @@ fn put_masked(
 ) -> Stepped
     ensures { λ s. ⌜ Performs (now (pages .entry)) (masked x r mask w at) r (now (memory .entry)) s (now (memory .exit)) ⌝ }
 {
+    let to = past(r.p, 3);
     match x {
-        Mask::Setting => put(w | mask, Map::Execute, at, past(r.p, 3), r, pages, memory),
-        Mask::Clearing => put(
-            clear_bits(mask, w),
-            Map::Execute,
-            at,
-            past(r.p, 3),
-            r,
-            pages,
-            memory,
-        ),
-        Mask::Testing => {
+        Bits::Sbs => put(w | mask, Map::Execute, at, to, r, pages, memory),
+        Bits::Cbs => put(clear_bits(mask, w), Map::Execute, at, to, r, pages, memory),
+        Bits::Tbs => {
             let missing = !every_bit_set(mask, w);
             completed(go_to(skipping(r.p, 3, missing), r))
         }

@@ -1,23 +1,22 @@
 // The ways in which an instruction works on the word at its address.
-use code::codes::Index;
-use code::codes::Register;
+use crate::reads::Got;
+use crate::reads::get_word;
 use crate::record::Registers;
 use crate::record::go_ahead;
 use crate::record::go_skipping;
 use crate::record::go_to;
 use crate::record::index;
-use crate::record::interrupt;
 use crate::record::register;
 use crate::record::set_index;
 use crate::record::set_register;
 use crate::record::skipping;
-use crate::replies::Reply;
 use crate::replies::Stepped;
+use crate::replies::Trouble;
 use crate::replies::completed;
-use maps::access::Fetched;
-use maps::access::read_word;
+use crate::replies::stop_by;
+use code::codes::Index;
+use code::codes::Register;
 use maps::access::store_word;
-use maps::chains::Chain;
 use maps::pages::Map;
 use maps::pages::Place;
 use maps::pages::Purpose;
@@ -31,8 +30,10 @@ use word::sums::increment;
 use word::sums::past;
 ghost use mathlib.Core.Path.{_≡_};
 ghost use mathlib.Core.Bool.{false};
+ghost use Prim.Native.Nat.{_<_};
+ghost use lib.ListN.{length, set};
 ghost use Rattle.machine.specs.Record.{withA, withB, withO};
-ghost use Rattle.machine.specs.Acts.{Performs, Ends, exec, onChain, load, save, fin};
+ghost use Rattle.machine.specs.Acts.{Performs, Ends, exec, load, save, fin};
 ghost use Rattle.machine.specs.Ways.{flagged, quotient, taken, stored, ahead, goOn, wayAct};
 
 // What is done with a word that is read.
@@ -139,50 +140,35 @@ pub fn take(
 ) -> Stepped
     ensures { λ s. ⌜ Performs (now (pages .entry)) (load map at (λ w. fin (taken taking w words))) r (now (memory .entry)) s (now (memory .entry)) ⌝ }
 {
-    match read_word(pages, memory, r.wmap, map, at, r.a, r.b) {
-        Fetched::Word(w) => Stepped {
-            reply: Reply::Completed,
-            registers: apply(taking, w, words, r),
-        },
-        Fetched::Closed => Stepped {
-            reply: Reply::Violation,
-            registers: interrupt(r),
-        },
-        Fetched::Absent(_) => Stepped {
-            reply: Reply::Absent,
-            registers: r,
-        },
+    match get_word(map, at, r, pages, memory) {
+        Got::Value(w) => completed(apply(taking, w, words, r)),
+        Got::Ends(t) => stop_by(t, r),
     }
 }
 
-// A word is stored at an address, and P goes on elsewhere. The present registers are s; trouble leaves r.
-fn put_from(
+// A word is stored at an address. The registers are then s, but for what the store changes; trouble
+// leaves r.
+pub(crate) fn put_last(
     value: u16,
     map: Map,
     at: u16,
-    to: u16,
     s: Registers,
     r: Registers,
     pages: &[u16],
     memory: &mut [u16],
 ) -> Stepped
-    ensures { λ t. ⌜ Ends r (now (memory .entry)) (exec (now (pages .entry)) (save map at value (goOn to)) s (now (memory .entry))) t (now (memory .exit)) ⌝ }
+    ensures { λ t. ⌜ Ends r (now (memory .entry)) (exec (now (pages .entry)) (save map at value (fin (λ q. q))) s (now (memory .entry))) t (now (memory .exit)) ⌝ }
 {
     match store_word(pages, memory, s.wmap, map, at, value) {
-        Place::A => completed(go_to(to, set_register(Register::A, s, value))),
-        Place::B => completed(go_to(to, set_register(Register::B, s, value))),
-        Place::Memory(_) => completed(go_to(to, s)),
-        Place::Closed => Stepped {
-            reply: Reply::Violation,
-            registers: interrupt(r),
-        },
-        Place::Absent(_) => Stepped {
-            reply: Reply::Absent,
-            registers: r,
-        },
+        Place::A => completed(set_register(Register::A, s, value)),
+        Place::B => completed(set_register(Register::B, s, value)),
+        Place::Memory(_) => completed(s),
+        Place::Closed => stop_by(Trouble::Violation, r),
+        Place::Absent(_) => stop_by(Trouble::Absent, r),
     }
 }
 
+// A word is stored at an address, and P goes on elsewhere.
 pub fn put(
     value: u16,
     map: Map,
@@ -194,7 +180,7 @@ pub fn put(
 ) -> Stepped
     ensures { λ s. ⌜ Performs (now (pages .entry)) (save map at value (goOn to)) r (now (memory .entry)) s (now (memory .exit)) ⌝ }
 {
-    put_from(value, map, at, to, r, r, pages, memory)
+    put_last(value, map, at, go_to(to, r), r, pages, memory)
 }
 
 // ISZ: read, then stored plus one; a skip where that is 0.
@@ -207,20 +193,13 @@ pub fn step_and_skip(
 ) -> Stepped
     ensures { λ s. ⌜ Performs (now (pages .entry)) (wayAct Way.StepAndSkip r at words) r (now (memory .entry)) s (now (memory .exit)) ⌝ }
 {
-    match read_word(pages, memory, r.wmap, Map::Execute, at, r.a, r.b) {
-        Fetched::Word(w) => {
+    match get_word(Map::Execute, at, r, pages, memory) {
+        Got::Value(w) => {
             let stepped = increment(w).word;
             let to = skipping(r.p, words, stepped == 0);
             put(stepped, Map::Execute, at, to, r, pages, memory)
         }
-        Fetched::Closed => Stepped {
-            reply: Reply::Violation,
-            registers: interrupt(r),
-        },
-        Fetched::Absent(_) => Stepped {
-            reply: Reply::Absent,
-            registers: r,
-        },
+        Got::Ends(t) => stop_by(t, r),
     }
 }
 
@@ -228,35 +207,21 @@ pub fn step_and_skip(
 pub fn load_double(at: u16, words: u16, r: Registers, pages: &[u16], memory: &[u16]) -> Stepped
     ensures { λ s. ⌜ Performs (now (pages .entry)) (wayAct Way.LoadDouble r at words) r (now (memory .entry)) s (now (memory .entry)) ⌝ }
 {
-    match read_word(pages, memory, r.wmap, Map::Execute, at, r.a, r.b) {
-        Fetched::Word(v) => load_second(v, past(at, 1), words, r, pages, memory),
-        Fetched::Closed => Stepped {
-            reply: Reply::Violation,
-            registers: interrupt(r),
-        },
-        Fetched::Absent(_) => Stepped {
-            reply: Reply::Absent,
-            registers: r,
-        },
+    match get_word(Map::Execute, at, r, pages, memory) {
+        Got::Value(v) => load_second(v, past(at, 1), words, r, pages, memory),
+        Got::Ends(t) => stop_by(t, r),
     }
 }
 
-fn load_second(v: u16, at: u16, words: u16, r: Registers, pages: &[u16], memory: &[u16]) -> Stepped
-    ensures { λ s. ⌜ Performs (now (pages .entry)) (load Map.Execute at (λ w. fin (λ t. ahead words (withB (withA t v) w)))) r (now (memory .entry)) s (now (memory .entry)) ⌝ }
+fn load_second(v: u16, second: u16, words: u16, r: Registers, pages: &[u16], memory: &[u16]) -> Stepped
+    ensures { λ s. ⌜ Performs (now (pages .entry)) (load Map.Execute second (λ w. fin (λ t. ahead words (withB (withA t v) w)))) r (now (memory .entry)) s (now (memory .entry)) ⌝ }
 {
-    match read_word(pages, memory, r.wmap, Map::Execute, at, r.a, r.b) {
-        Fetched::Word(w) => {
+    match get_word(Map::Execute, second, r, pages, memory) {
+        Got::Value(w) => {
             let first = set_register(Register::A, r, v);
             completed(go_ahead(words, set_register(Register::B, first, w)))
         }
-        Fetched::Closed => Stepped {
-            reply: Reply::Violation,
-            registers: interrupt(r),
-        },
-        Fetched::Absent(_) => Stepped {
-            reply: Reply::Absent,
-            registers: r,
-        },
+        Got::Ends(t) => stop_by(t, r),
     }
 }
 
@@ -264,56 +229,66 @@ fn load_second(v: u16, at: u16, words: u16, r: Registers, pages: &[u16], memory:
 pub fn store_double(at: u16, words: u16, r: Registers, pages: &[u16], memory: &mut [u16]) -> Stepped
     ensures { λ s. ⌜ Performs (now (pages .entry)) (wayAct Way.StoreDouble r at words) r (now (memory .entry)) s (now (memory .exit)) ⌝ }
 {
-    let length = memory.len();
     let second = past(at, 1);
-    let to = past(r.p, words);
-    match place_of(pages, r.wmap, Map::Execute, Purpose::Store, at, length) {
+    let s = go_ahead(words, r);
+    match place_of(
+        pages,
+        r.wmap,
+        Map::Execute,
+        Purpose::Store,
+        at,
+        memory.len(),
+    ) {
         Place::A => {
-            let s = set_register(Register::A, r, r.a);
-            put_from(r.b, Map::Execute, second, to, s, r, pages, memory)
+            let t = set_register(Register::A, s, r.a);
+            put_last(r.b, Map::Execute, second, t, r, pages, memory)
         }
         Place::B => {
-            let s = set_register(Register::B, r, r.a);
-            put_from(r.b, Map::Execute, second, to, s, r, pages, memory)
+            let t = set_register(Register::B, s, r.a);
+            put_last(r.b, Map::Execute, second, t, r, pages, memory)
         }
-        Place::Memory(i) => match place_of(
-            pages,
-            r.wmap,
-            Map::Execute,
-            Purpose::Store,
-            second,
-            length,
-        ) {
-            Place::A => {
-                memory[i] = r.a;
-                completed(go_to(to, set_register(Register::A, r, r.b)))
-            }
-            Place::B => {
-                memory[i] = r.a;
-                completed(go_to(to, set_register(Register::B, r, r.b)))
-            }
-            Place::Memory(j) => {
-                memory[i] = r.a;
-                memory[j] = r.b;
-                completed(go_to(to, r))
-            }
-            Place::Closed => Stepped {
-                reply: Reply::Violation,
-                registers: interrupt(r),
-            },
-            Place::Absent(_) => Stepped {
-                reply: Reply::Absent,
-                registers: r,
-            },
-        },
-        Place::Closed => Stepped {
-            reply: Reply::Violation,
-            registers: interrupt(r),
-        },
-        Place::Absent(_) => Stepped {
-            reply: Reply::Absent,
-            registers: r,
-        },
+        Place::Memory(i) => store_second(i, second, s, r, pages, memory),
+        Place::Closed => stop_by(Trouble::Violation, r),
+        Place::Absent(_) => stop_by(Trouble::Absent, r),
+    }
+}
+
+// A goes to the word i of memory and B to an address, if that can be stored. The registers are then s,
+// but for what the second store changes.
+fn store_second(
+    i: usize,
+    at: u16,
+    s: Registers,
+    r: Registers,
+    pages: &[u16],
+    memory: &mut [u16],
+) -> Stepped
+    requires { ⌜ i < length (now memory) ⌝ }
+    ensures { λ t. ⌜ Ends r (now (memory .entry)) (exec (now (pages .entry)) (save Map.Execute at (r .b) (fin (λ q. q))) s (set (now (memory .entry)) i (r .a))) t (now (memory .exit)) ⌝ }
+{
+    match place_of(
+        pages,
+        s.wmap,
+        Map::Execute,
+        Purpose::Store,
+        at,
+        memory.len(),
+    ) {
+        Place::A => {
+            memory[i] = r.a;
+            completed(set_register(Register::A, s, r.b))
+        }
+        Place::B => {
+            memory[i] = r.a;
+            completed(set_register(Register::B, s, r.b))
+        }
+        Place::Memory(j) => {
+            memory[i] = r.a;
+            memory[j] = r.b;
+            completed(s)
+        }
+        Place::Closed => stop_by(Trouble::Violation, r),
+        Place::Absent(_) => stop_by(Trouble::Absent, r),
     }
 }
 
@@ -388,33 +363,5 @@ pub fn at_address(
                 memory,
             )
         }
-    }
-}
-
-// The same at the address that a chain led to.
-pub fn at_chain(
-    chain: Chain,
-    way: Way,
-    words: u16,
-    r: Registers,
-    pages: &[u16],
-    memory: &mut [u16],
-) -> Stepped
-    ensures { λ s. ⌜ Ends r (now (memory .entry)) (onChain chain (λ at. exec (now (pages .entry)) (wayAct way r at words) r (now (memory .entry)))) s (now (memory .exit)) ⌝ }
-{
-    match chain {
-        Chain::Address(at) => at_address(way, at, words, r, pages, memory),
-        Chain::Endless => Stepped {
-            reply: Reply::Endless,
-            registers: r,
-        },
-        Chain::Closed => Stepped {
-            reply: Reply::Violation,
-            registers: interrupt(r),
-        },
-        Chain::Absent(_) => Stepped {
-            reply: Reply::Absent,
-            registers: r,
-        },
     }
 }

@@ -1,6 +1,6 @@
 // Reads all 65,536 words and prints how many are of each class.
-use libc::STDOUT_FILENO;
 use code::instructions::Instruction;
+use libc::STDOUT_FILENO;
 
 // A class by its number, in the order of the listing.
 fn class_of(word: u16) -> u8 {

@@ -1,9 +1,9 @@
 -- `group::input_output` meets its contract: by what its calls ensure. Assumes nothing.
 use mathlib.Core.Path.{refl}
+use borrow.Author.Tests.{ne-eqb}
 use Rattle.machine.specs.Acts.{exec}
 use Rattle.machine.specs.Group.{ioAct}
 use borrow.Author.Needs.{needs}
-use borrow.Author.Tests.{ne-eqb}
 use Rattle.machine.proofs.group.input_output.Statement.{statement}
 use Rattle.machine.proofs.group.input_output.Tie as tie
 
@@ -13,12 +13,12 @@ high-bit-requires c κs = search needs
 is-halt-requires : tie.Need-is-halt-requires
 is-halt-requires c κs = search needs
 
-interrupt-requires : tie.Need-interrupt-requires
-interrupt-requires c κs = search needs
+stop-by-requires : tie.Need-stop-by-requires
+stop-by-requires c κs = search needs
 
 returns : tie.Need-returns
 unfolding exec ioAct
-returns c = rw (← c .before .before .before .high-bit .ensures, ← c .before .before .is-halt .ensures, c .before .if1 .taken, c .interrupt .ensures) (λ pages m. record { outcome = refl; memory = refl })
+returns c = rw (← c .before .before .before .high-bit .ensures, ← c .before .before .is-halt .ensures, c .before .if1 .taken, c .stop-by .ensures) (λ pages m. record { outcome = refl; memory = refl })
 
 panel-requires : tie.Need-panel-requires
 panel-requires c κs = search needs
@@ -40,7 +40,7 @@ input-output-spec =
     (tie.spec
     high-bit-requires
     is-halt-requires
-    interrupt-requires
+    stop-by-requires
     returns
     panel-requires
     returns-2

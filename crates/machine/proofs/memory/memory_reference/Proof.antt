@@ -1,21 +1,46 @@
--- `memory::memory_reference` meets its contract: each arm answers as the definition does there, by what its calls ensure. Assumes nothing.
-use Rattle.machine.specs.Acts.{exec}
+-- `memory::memory_reference` meets its contract: by what its calls ensure. Assumes nothing.
+use Rattle.machine.proofs.Operands.{had-value, had-stop}
 use borrow.Author.Needs.{needs}
 use Rattle.machine.proofs.memory.memory_reference.Statement.{statement}
 use Rattle.machine.proofs.memory.memory_reference.Tie as tie
 
-follow-requires : tie.Need-follow-requires
-follow-requires c κs = search needs
+get-target-requires : tie.Need-get-target-requires
+get-target-requires c κs = search needs
 
-at-chain-requires : tie.Need-at-chain-requires
-at-chain-requires c κs = search needs
+enum-known-at : tie.Need-enum-known-at
+enum-known-at c = search needs
+
+at-address-requires : tie.Need-at-address-requires
+at-address-requires c κs = search needs
+
+enum-known-t : tie.Need-enum-known-t
+enum-known-t c = search needs
+
+stop-by-requires : tie.Need-stop-by-requires
+stop-by-requires c κs = search needs
 
 same-length : tie.Need-same-length
 same-length c = search needs
 
 returns : tie.Need-returns
-unfolding exec
-returns c = rw (← c .before .before .before .before .follow .ensures) (c .before .before .at-chain .ensures)
+returns c = rw (had-value (c .before .before .before .before .before .before .before .get-target .ensures) (c .before .before .before .before .before .at .given .1) _) (c .before .before .at-address .ensures)
+
+same-length-2 : tie.Need-same-length-2
+same-length-2 c = search needs
+
+returns-2 : tie.Need-returns-2
+returns-2 c = had-stop (c .before .before .before .before .get-target .ensures) (c .before .before .t .given .1) (c .stop-by .ensures) _
 
 pub memory-reference-spec : {M : Type 1} → statement M
-memory-reference-spec = tie.close (tie.spec follow-requires at-chain-requires same-length returns)
+memory-reference-spec =
+    tie.close
+    (tie.spec
+    get-target-requires
+    enum-known-at
+    at-address-requires
+    enum-known-t
+    stop-by-requires
+    same-length
+    returns
+    same-length-2
+    returns-2)

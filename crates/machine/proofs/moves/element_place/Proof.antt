@@ -18,6 +18,21 @@ told : (pages : List ℕ) (wmap : ℕ) (map : Map) (purpose : Purpose) (size : �
     → q ≡ Place.Memory index
 told pages wmap map purpose size e f g h = sym g ∙ f ∙ (rw e h)
 
+same : {i j : ℕ} → Place.Memory i ≡ Place.Memory j → i ≡ j
+same e = cc
+
+not-a : {X : Type 0} {j : ℕ} → Place.A ≡ Place.Memory j → X
+not-a e = never (cc)
+
+not-b : {X : Type 0} {j : ℕ} → Place.B ≡ Place.Memory j → X
+not-b e = never (cc)
+
+not-closed : {X : Type 0} {j : ℕ} → Place.Closed ≡ Place.Memory j → X
+not-closed e = never (cc)
+
+not-absent : {X : Type 0} {i j : ℕ} → Place.Absent i ≡ Place.Memory j → X
+not-absent e = never (cc)
+
 word-at-requires : tie.Need-word-at-requires
 word-at-requires c κs = search needs
 
@@ -55,22 +70,22 @@ enum-told-6 : tie.Need-enum-told-6
 enum-told-6 c = search needs
 
 returns : tie.Need-returns
-returns c = λ index e. let q = told _ _ _ _ _ (c .before .before .before .before .before .before .word-at .ensures) (c .before .before .before .before .before .place-of .ensures) (c .before .before .before .index .given .1) e in rw (c .enum-told .given .1) (cc)
+returns c = λ index e. rw (c .enum-told .given .1) (same (told _ _ _ _ _ (c .before .before .before .before .before .before .word-at .ensures) (c .before .before .before .before .before .place-of .ensures) (c .before .before .before .index .given .1) e))
 
 returns-2 : tie.Need-returns-2
-returns-2 c = λ index e. let q = told _ _ _ _ _ (c .before .before .before .before .before .before .word-at .ensures) (c .before .before .before .before .before .place-of .ensures) (c .before .before .before .index .given .1) e in let i : c .before .before .before .index .given .0 .0 ≡ index = cc in rw (c .enum-told2 .given .1, i)
+returns-2 c = λ index e. rw (c .enum-told2 .given .1, same (told _ _ _ _ _ (c .before .before .before .before .before .before .word-at .ensures) (c .before .before .before .before .before .place-of .ensures) (c .before .before .before .index .given .1) e))
 
 returns-3 : tie.Need-returns-3
-returns-3 c = λ index e. let q = told _ _ _ _ _ (c .before .before .before .word-at .ensures) (c .before .before .place-of .ensures) (c .enum-told3 .given .1) e in never (cc)
+returns-3 c = λ index e. not-a (told _ _ _ _ _ (c .before .before .before .word-at .ensures) (c .before .before .place-of .ensures) (c .enum-told3 .given .1) e)
 
 returns-4 : tie.Need-returns-4
-returns-4 c = λ index e. let q = told _ _ _ _ _ (c .before .before .before .word-at .ensures) (c .before .before .place-of .ensures) (c .enum-told4 .given .1) e in never (cc)
+returns-4 c = λ index e. not-b (told _ _ _ _ _ (c .before .before .before .word-at .ensures) (c .before .before .place-of .ensures) (c .enum-told4 .given .1) e)
 
 returns-5 : tie.Need-returns-5
-returns-5 c = λ index e. let q = told _ _ _ _ _ (c .before .before .before .word-at .ensures) (c .before .before .place-of .ensures) (c .enum-told5 .given .1) e in never (cc)
+returns-5 c = λ index e. not-closed (told _ _ _ _ _ (c .before .before .before .word-at .ensures) (c .before .before .place-of .ensures) (c .enum-told5 .given .1) e)
 
 returns-6 : tie.Need-returns-6
-returns-6 c = λ index e. let q = told _ _ _ _ _ (c .before .before .before .word-at .ensures) (c .before .before .place-of .ensures) (c .enum-told6 .given .1) e in never (cc)
+returns-6 c = λ index e. not-absent (told _ _ _ _ _ (c .before .before .before .word-at .ensures) (c .before .before .place-of .ensures) (c .enum-told6 .given .1) e)
 
 pub element-place-spec : {M : Type 1} → statement M
 element-place-spec =

@@ -1,12 +1,15 @@
--- `step::carry_out_trap` meets its contract: each arm answers as the definition does there, by what its calls ensure. Assumes nothing.
+-- `step::carry_out_trap` meets its contract: by what its calls ensure. Assumes nothing.
 use mathlib.Core.Path.{refl}
 use Rattle.machine.specs.Acts.{exec}
 use borrow.Author.Needs.{needs}
 use Rattle.machine.proofs.step.carry_out_trap.Statement.{statement}
 use Rattle.machine.proofs.step.carry_out_trap.Tie as tie
 
-enum-known-i : tie.Need-enum-known-i
-enum-known-i c = search needs
+read-instruction-requires : tie.Need-read-instruction-requires
+read-instruction-requires c κs = search needs
+
+enum-known-operation : tie.Need-enum-known-operation
+enum-known-operation c = search needs
 
 memory-word-requires : tie.Need-memory-word-requires
 memory-word-requires c κs = search needs
@@ -55,37 +58,38 @@ same-length c = search needs
 
 returns : tie.Need-returns
 unfolding exec
-returns c = rw (c .before .before .before .before .before .before .i .given .1) (rw (c .before .before .before .before .memory-word .ensures) at (c .before .before .trap-reference .ensures))
+returns c = rw (← c .before .before .before .before .before .before .before .before .read-instruction .ensures, c .before .before .before .before .before .before .operation .given .1) (rw (c .before .before .before .before .memory-word .ensures) at (c .before .before .trap-reference .ensures))
 
 returns-2 : tie.Need-returns-2
 unfolding exec
-returns-2 c = rw (c .before .enum-told .given .1, c .refuse .ensures) (record { outcome = refl; memory = refl })
+returns-2 c = rw (← c .before .before .before .read-instruction .ensures, c .before .enum-told .given .1, c .refuse .ensures) (record { outcome = refl; memory = refl })
 
 returns-3 : tie.Need-returns-3
 unfolding exec
-returns-3 c = rw (c .before .enum-told2 .given .1, c .refuse2 .ensures) (record { outcome = refl; memory = refl })
+returns-3 c = rw (← c .before .before .before .read-instruction .ensures, c .before .enum-told2 .given .1, c .refuse2 .ensures) (record { outcome = refl; memory = refl })
 
 returns-4 : tie.Need-returns-4
 unfolding exec
-returns-4 c = rw (c .before .enum-told3 .given .1, c .refuse3 .ensures) (record { outcome = refl; memory = refl })
+returns-4 c = rw (← c .before .before .before .read-instruction .ensures, c .before .enum-told3 .given .1, c .refuse3 .ensures) (record { outcome = refl; memory = refl })
 
 returns-5 : tie.Need-returns-5
 unfolding exec
-returns-5 c = rw (c .before .enum-told4 .given .1, c .refuse4 .ensures) (record { outcome = refl; memory = refl })
+returns-5 c = rw (← c .before .before .before .read-instruction .ensures, c .before .enum-told4 .given .1, c .refuse4 .ensures) (record { outcome = refl; memory = refl })
 
 returns-6 : tie.Need-returns-6
 unfolding exec
-returns-6 c = rw (c .before .enum-told5 .given .1, c .refuse5 .ensures) (record { outcome = refl; memory = refl })
+returns-6 c = rw (← c .before .before .before .read-instruction .ensures, c .before .enum-told5 .given .1, c .refuse5 .ensures) (record { outcome = refl; memory = refl })
 
 returns-7 : tie.Need-returns-7
 unfolding exec
-returns-7 c = rw (c .before .enum-told6 .given .1, c .refuse6 .ensures) (record { outcome = refl; memory = refl })
+returns-7 c = rw (← c .before .before .before .read-instruction .ensures, c .before .enum-told6 .given .1, c .refuse6 .ensures) (record { outcome = refl; memory = refl })
 
 pub carry-out-trap-spec : {M : Type 1} → statement M
 carry-out-trap-spec =
     tie.close
     (tie.spec
-    enum-known-i
+    read-instruction-requires
+    enum-known-operation
     memory-word-requires
     trap-reference-requires
     enum-told

@@ -1,4 +1,4 @@
--- `step::extended` meets its contract: each arm answers as the definition does there, by what its calls ensure. Assumes nothing.
+-- `step::extended` meets its contract: by what its calls ensure. Assumes nothing.
 use Rattle.machine.specs.Acts.{exec}
 use borrow.Author.Needs.{needs}
 use Rattle.machine.proofs.step.extended.Statement.{statement}
@@ -42,9 +42,6 @@ bytes-requires c κs = search needs
 
 enum-known-x-6 : tie.Need-enum-known-x-6
 enum-known-x-6 c = search needs
-
-bits-mask-requires : tie.Need-bits-mask-requires
-bits-mask-requires c κs = search needs
 
 mask-bits-requires : tie.Need-mask-bits-requires
 mask-bits-requires c κs = search needs
@@ -95,7 +92,7 @@ same-length-6 c = search needs
 
 returns-6 : tie.Need-returns-6
 unfolding exec
-returns-6 c = rw (c .before .before .before .before .before .before .x6 .given .1) (rw (c .before .before .before .before .bits-mask .ensures) at (c .before .before .mask-bits .ensures))
+returns-6 c = rw (c .before .before .before .before .before .x6 .given .1) (c .before .before .mask-bits .ensures)
 
 same-length-7 : tie.Need-same-length-7
 same-length-7 c = search needs
@@ -121,7 +118,6 @@ extended-spec =
     enum-known-x-5
     bytes-requires
     enum-known-x-6
-    bits-mask-requires
     mask-bits-requires
     enum-known-x-7
     words-requires

@@ -1,4 +1,4 @@
--- `step::not_built` meets its contract: each arm answers as the definition does there, by what its calls ensure. Assumes nothing.
+-- `step::not_built` meets its contract: by what its calls ensure. Assumes nothing.
 use mathlib.Core.Path.{refl}
 use Rattle.machine.specs.Acts.{exec}
 use borrow.Author.Needs.{needs}
@@ -8,12 +8,12 @@ use Rattle.machine.proofs.step.not_built.Tie as tie
 is-privileged-requires : tie.Need-is-privileged-requires
 is-privileged-requires c κs = search needs
 
-interrupt-requires : tie.Need-interrupt-requires
-interrupt-requires c κs = search needs
+stop-by-requires : tie.Need-stop-by-requires
+stop-by-requires c κs = search needs
 
 returns : tie.Need-returns
 unfolding exec
-returns c = λ pages m. rw (rw (c .before .before .is-privileged .ensures) at (c .before .if1 .taken), c .interrupt .ensures) (record { outcome = refl; memory = refl })
+returns c = λ pages m. rw (rw (c .before .before .is-privileged .ensures) at (c .before .if1 .taken), c .stop-by .ensures) (record { outcome = refl; memory = refl })
 
 refuse-requires : tie.Need-refuse-requires
 refuse-requires c κs = search needs
@@ -24,5 +24,4 @@ returns-2 c = λ pages m. rw (rw (c .before .before .is-privileged .ensures) at 
 
 pub not-built-spec : {M : Type 1} → statement M
 not-built-spec =
-    tie.close
-    (tie.spec is-privileged-requires interrupt-requires returns refuse-requires returns-2)
+    tie.close (tie.spec is-privileged-requires stop-by-requires returns refuse-requires returns-2)

@@ -1,5 +1,7 @@
--- `strings::compare` meets its contract. Assumes nothing.
-use Rattle.machine.proofs.Operands.{had-value, had-end}
+-- `strings::compare` meets its contract: by what its calls ensure. Assumes nothing.
+use mathlib.Core.Path.{refl}
+use Rattle.machine.specs.Acts.{exec}
+use Rattle.machine.proofs.Operands.{had-value, had-stop}
 use borrow.Author.Needs.{needs}
 use Rattle.machine.proofs.strings.compare.Statement.{statement}
 use Rattle.machine.proofs.strings.compare.Tie as tie
@@ -7,28 +9,49 @@ use Rattle.machine.proofs.strings.compare.Tie as tie
 count-at-requires : tie.Need-count-at-requires
 count-at-requires c κs = search needs
 
-enum-known-count : tie.Need-enum-known-count
-enum-known-count c = search needs
+enum-known-n : tie.Need-enum-known-n
+enum-known-n c = search needs
+
+is-none-requires : tie.Need-is-none-requires
+is-none-requires c κs = search needs
+
+go-ahead-requires : tie.Need-go-ahead-requires
+go-ahead-requires c κs = search needs
+
+completed-requires : tie.Need-completed-requires
+completed-requires c κs = search needs
+
+returns : tie.Need-returns
+unfolding exec
+returns c = rw (had-value (c .before .before .before .before .before .before .before .count-at .ensures) (c .before .before .before .before .before .n .given .1) _, ← c .before .before .before .is-none .ensures, c .before .before .if1 .taken, c .completed .ensures, c .before .go-ahead .ensures) (record { outcome = refl; memory = refl })
 
 compare-strings-requires : tie.Need-compare-strings-requires
 compare-strings-requires c κs = search needs
 
-enum-known-s : tie.Need-enum-known-s
-enum-known-s c = search needs
+enum-known-t : tie.Need-enum-known-t
+enum-known-t c = search needs
 
-returns : tie.Need-returns
-returns c = rw (had-value (c .before .before .before .before .count-at .ensures) (c .before .before .count .given .1) _) (c .compare-strings .ensures)
+stop-by-requires : tie.Need-stop-by-requires
+stop-by-requires c κs = search needs
 
 returns-2 : tie.Need-returns-2
-returns-2 c = had-end (c .before .before .before .count-at .ensures) (c .before .s .given .1) _
+returns-2 c = rw (had-value (c .before .before .before .before .before .before .count-at .ensures) (c .before .before .before .before .n .given .1) _, ← c .before .before .is-none .ensures, c .before .if1 .left) (c .compare-strings .ensures)
+
+returns-3 : tie.Need-returns-3
+returns-3 c = had-stop (c .before .before .before .before .count-at .ensures) (c .before .before .t .given .1) (c .stop-by .ensures) _
 
 pub compare-spec : {M : Type 1} → statement M
 compare-spec =
     tie.close
     (tie.spec
     count-at-requires
-    enum-known-count
-    compare-strings-requires
-    enum-known-s
+    enum-known-n
+    is-none-requires
+    go-ahead-requires
+    completed-requires
     returns
-    returns-2)
+    compare-strings-requires
+    enum-known-t
+    stop-by-requires
+    returns-2
+    returns-3)

@@ -7,6 +7,7 @@ use borrow.Author.Needs.{needs}
 use Rattle.machine.specs.Acts.{exec, Performs}
 use Rattle.machine.specs.Strings.{along, comparing, concluded}
 use Rattle.machine.proofs.Comparisons.{ordered, stopped}
+use Rattle.machine.proofs.Operands.{stopping}
 use Rattle.machine.proofs.strings.compare_strings.Statement.{statement}
 use Rattle.machine.proofs.strings.compare_strings.Tie as tie
 
@@ -34,7 +35,7 @@ ended c =
     (λ w. rw (w .7, ordered _ (args .u) end _ _ (at .left) _ _ (omega (arith, w .0 .left)) (w .1 .ensures) (w .3 .given .1), w .6 .given .1) (record { outcome = refl; memory = refl }))
     (⊎-elim
     (λ w. rw (w .7, ordered _ (args .u) end _ _ (at .left) _ _ (omega (arith, w .0 .left)) (w .1 .ensures) (w .3 .given .1), w .6 .given .1) (record { outcome = refl; memory = refl }))
-    (λ w. rw (w .5) (stopped _ (args .u) end _ _ (at .left) _ _ (omega (arith, w .0 .left)) (w .1 .ensures) (w .3 .given .1)))))
+    (λ w. rw (w .5, stopped _ (args .u) end _ _ (at .left) _ _ (omega (arith, w .0 .left)) (w .1 .ensures) (w .3 .given .1)) (stopping (w .3 .given .0 .0) refl))))
     (c .if1 .came)
 
 go-along-requires : tie.Need-go-along-requires Inv-loop μ-loop
@@ -80,8 +81,8 @@ loop-again c =
     rw (c .before .go-along3 .ensures, c .go-along4 .ensures)
     (sym (rw (c .before .before .enum-told3 .given .1) at (ordered _ (args .u) (along (args .u) (args .r .b) (args .count)) _ _ (at .left) _ _ (omega arith) (c .before .before .before .before .before .before .before .compare-pair .ensures) (c .before .before .before .before .before .order .given .1))) ∙ at .inv)
 
-enum-known-s : tie.Need-enum-known-s Inv-loop μ-loop
-enum-known-s c = search needs
+enum-known-t : tie.Need-enum-known-t Inv-loop μ-loop
+enum-known-t c = search needs
 
 go-along-requires-5 : tie.Need-go-along-requires-5 Inv-loop μ-loop
 go-along-requires-5 c κs = search needs
@@ -111,7 +112,7 @@ compare-strings-spec =
     sub-left
     loop-less
     loop-again
-    enum-known-s
+    enum-known-t
     go-along-requires-5
     conclude-requires
     returns)

@@ -1,4 +1,4 @@
--- `strings::conclude` meets its contract. Assumes nothing.
+-- `strings::conclude` meets its contract: by what its calls ensure. Assumes nothing.
 use borrow.Author.Needs.{needs}
 use Rattle.machine.proofs.strings.conclude.Statement.{statement}
 use Rattle.machine.proofs.strings.conclude.Tie as tie
@@ -33,6 +33,9 @@ completed-requires-3 c κs = search needs
 enum-known-found-4 : tie.Need-enum-known-found-4
 enum-known-found-4 c = search needs
 
+stop-by-requires : tie.Need-stop-by-requires
+stop-by-requires c κs = search needs
+
 returns : tie.Need-returns
 returns c = rw (c .before .before .before .found .given .1, c .completed .ensures, c .before .end-comparison .ensures)
 
@@ -43,7 +46,7 @@ returns-3 : tie.Need-returns-3
 returns-3 c = rw (c .before .before .before .found3 .given .1, c .completed3 .ensures, c .before .end-comparison3 .ensures)
 
 returns-4 : tie.Need-returns-4
-returns-4 c = rw (c .before .found4 .given .1)
+returns-4 c = rw (c .before .before .found4 .given .1, c .stop-by .ensures)
 
 pub conclude-spec : {M : Type 1} → statement M
 conclude-spec =
@@ -59,6 +62,7 @@ conclude-spec =
     end-comparison-requires-3
     completed-requires-3
     enum-known-found-4
+    stop-by-requires
     returns
     returns-2
     returns-3

@@ -1,6 +1,5 @@
--- `strings::get_element` meets its contract. Assumes nothing.
+-- `strings::get_element` meets its contract: by what its calls ensure. Assumes nothing.
 use Rattle.machine.specs.Acts.{exec}
-use mathlib.Core.Path.{refl}
 use borrow.Author.Needs.{needs}
 use Rattle.machine.proofs.strings.get_element.Statement.{statement}
 use Rattle.machine.proofs.strings.get_element.Tie as tie
@@ -13,7 +12,7 @@ is-register-requires c κs = search needs
 
 returns : tie.Need-returns
 unfolding exec
-returns c = record { goes = λ k. rw (← c .before .before .word-at .ensures, ← c .before .is-register .ensures, c .if1 .taken) (record { outcome = refl; memory = refl }) }
+returns c = record { goes = λ k. rw (← c .before .before .word-at .ensures, ← c .before .is-register .ensures, c .if1 .taken) }
 
 get-word-requires : tie.Need-get-word-requires
 get-word-requires c κs = search needs

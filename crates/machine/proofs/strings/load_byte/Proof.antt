@@ -1,7 +1,7 @@
--- `strings::load_byte` meets its contract. Assumes nothing.
-use Rattle.machine.proofs.Operands.{had-value, had-end}
-use Rattle.machine.specs.Acts.{exec}
+-- `strings::load_byte` meets its contract: by what its calls ensure. Assumes nothing.
 use mathlib.Core.Path.{refl}
+use Rattle.machine.specs.Acts.{exec}
+use Rattle.machine.proofs.Operands.{had-value, had-stop}
 use borrow.Author.Needs.{needs}
 use Rattle.machine.proofs.strings.load_byte.Statement.{statement}
 use Rattle.machine.proofs.strings.load_byte.Tie as tie
@@ -36,15 +36,18 @@ go-ahead-requires c κs = search needs
 completed-requires : tie.Need-completed-requires
 completed-requires c κs = search needs
 
-enum-known-s : tie.Need-enum-known-s
-enum-known-s c = search needs
+enum-known-t : tie.Need-enum-known-t
+enum-known-t c = search needs
+
+stop-by-requires : tie.Need-stop-by-requires
+stop-by-requires c κs = search needs
 
 returns : tie.Need-returns
 unfolding exec
 returns c = rw (had-value (c .before .before .before .before .before .before .before .before .before .before .get-element .ensures) (c .before .before .before .before .before .before .before .before .w .given .1) _, c .completed .ensures, c .before .go-ahead .ensures, c .before .before .set-register2 .ensures, c .before .before .before .go-along .ensures, c .before .before .before .before .set-register .ensures, c .before .before .before .before .before .byte-of .ensures, c .before .before .before .before .before .before .is-low-byte .ensures) (record { outcome = refl; memory = refl })
 
 returns-2 : tie.Need-returns-2
-returns-2 c = had-end (c .before .before .before .get-element .ensures) (c .before .s .given .1) _
+returns-2 c = had-stop (c .before .before .before .before .get-element .ensures) (c .before .before .t .given .1) (c .stop-by .ensures) _
 
 pub load-byte-spec : {M : Type 1} → statement M
 load-byte-spec =
@@ -60,6 +63,7 @@ load-byte-spec =
     set-register-requires-2
     go-ahead-requires
     completed-requires
-    enum-known-s
+    enum-known-t
+    stop-by-requires
     returns
     returns-2)

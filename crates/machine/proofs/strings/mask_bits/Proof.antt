@@ -1,5 +1,5 @@
--- `strings::mask_bits` meets its contract. Assumes nothing.
-use Rattle.machine.proofs.Operands.{had-value, had-end}
+-- `strings::mask_bits` meets its contract: by what its calls ensure. Assumes nothing.
+use Rattle.machine.proofs.Operands.{had-value, had-stop}
 use borrow.Author.Needs.{needs}
 use Rattle.machine.proofs.strings.mask_bits.Statement.{statement}
 use Rattle.machine.proofs.strings.mask_bits.Tie as tie
@@ -19,11 +19,17 @@ enum-known-at c = search needs
 mask-word-requires : tie.Need-mask-word-requires
 mask-word-requires c κs = search needs
 
-enum-known-s : tie.Need-enum-known-s
-enum-known-s c = search needs
+enum-known-t : tie.Need-enum-known-t
+enum-known-t c = search needs
 
-enum-known-s-2 : tie.Need-enum-known-s-2
-enum-known-s-2 c = search needs
+stop-by-requires : tie.Need-stop-by-requires
+stop-by-requires c κs = search needs
+
+enum-known-t-2 : tie.Need-enum-known-t-2
+enum-known-t-2 c = search needs
+
+stop-by-requires-2 : tie.Need-stop-by-requires-2
+stop-by-requires-2 c κs = search needs
 
 same-length : tie.Need-same-length
 same-length c = search needs
@@ -35,13 +41,13 @@ same-length-2 : tie.Need-same-length-2
 same-length-2 c = search needs
 
 returns-2 : tie.Need-returns-2
-returns-2 c = rw (had-value (c .before .before .before .before .before .before .before .before .get-address .ensures) (c .before .before .before .before .before .before .m .given .1) _) (had-end (c .before .before .before .get-address2 .ensures) (c .before .s .given .1) _)
+returns-2 c = rw (had-value (c .before .before .before .before .before .before .before .before .before .get-address .ensures) (c .before .before .before .before .before .before .before .m .given .1) _) (had-stop (c .before .before .before .before .get-address2 .ensures) (c .before .before .t .given .1) (c .stop-by .ensures) _)
 
 same-length-3 : tie.Need-same-length-3
 same-length-3 c = search needs
 
 returns-3 : tie.Need-returns-3
-returns-3 c = had-end (c .before .before .before .get-address .ensures) (c .before .s2 .given .1) _
+returns-3 c = had-stop (c .before .before .before .before .get-address .ensures) (c .before .before .t2 .given .1) (c .stop-by2 .ensures) _
 
 pub mask-bits-spec : {M : Type 1} → statement M
 mask-bits-spec =
@@ -52,8 +58,10 @@ mask-bits-spec =
     get-address-requires-2
     enum-known-at
     mask-word-requires
-    enum-known-s
-    enum-known-s-2
+    enum-known-t
+    stop-by-requires
+    enum-known-t-2
+    stop-by-requires-2
     same-length
     returns
     same-length-2

@@ -1,15 +1,15 @@
--- `strings::put_masked` meets its contract. Assumes nothing.
-use Rattle.machine.specs.Acts.{exec}
+-- `strings::put_masked` meets its contract: by what its calls ensure. Assumes nothing.
 use mathlib.Core.Path.{refl}
+use Rattle.machine.specs.Acts.{exec}
 use borrow.Author.Needs.{needs}
 use Rattle.machine.proofs.strings.put_masked.Statement.{statement}
 use Rattle.machine.proofs.strings.put_masked.Tie as tie
 
-enum-told : tie.Need-enum-told
-enum-told c = search needs
-
 past-requires : tie.Need-past-requires
 past-requires c κs = search needs
+
+enum-told : tie.Need-enum-told
+enum-told c = search needs
 
 put-requires : tie.Need-put-requires
 put-requires c κs = search needs
@@ -19,9 +19,6 @@ enum-told-2 c = search needs
 
 clear-bits-requires : tie.Need-clear-bits-requires
 clear-bits-requires c κs = search needs
-
-past-requires-2 : tie.Need-past-requires-2
-past-requires-2 c κs = search needs
 
 put-requires-2 : tie.Need-put-requires-2
 put-requires-2 c κs = search needs
@@ -45,13 +42,13 @@ same-length : tie.Need-same-length
 same-length c = search needs
 
 returns : tie.Need-returns
-returns c = rw (c .before .before .before .before .before .enum-told .given .1, ← c .before .before .before .before .past .ensures) (c .before .before .put .ensures)
+returns c = rw (c .before .before .before .before .enum-told .given .1, ← c .before .before .before .before .before .before .past .ensures) (c .before .before .put .ensures)
 
 same-length-2 : tie.Need-same-length-2
 same-length-2 c = search needs
 
 returns-2 : tie.Need-returns-2
-returns-2 c = rw (c .before .before .before .before .before .before .enum-told2 .given .1, ← c .before .before .before .before .past2 .ensures, ← c .before .before .before .before .before .clear-bits .ensures) (c .before .before .put2 .ensures)
+returns-2 c = rw (c .before .before .before .before .before .enum-told2 .given .1, ← c .before .before .before .before .before .before .before .past .ensures, ← c .before .before .before .before .clear-bits .ensures) (c .before .before .put2 .ensures)
 
 returns-3 : tie.Need-returns-3
 unfolding exec
@@ -61,12 +58,11 @@ pub put-masked-spec : {M : Type 1} → statement M
 put-masked-spec =
     tie.close
     (tie.spec
-    enum-told
     past-requires
+    enum-told
     put-requires
     enum-told-2
     clear-bits-requires
-    past-requires-2
     put-requires-2
     enum-told-3
     every-bit-set-requires

@@ -22,8 +22,14 @@ place-of-requires c κs = search needs
 enum-told : tie.Need-enum-told
 enum-told c = search needs
 
+stop-by-requires : tie.Need-stop-by-requires
+stop-by-requires c κs = search needs
+
 enum-told-2 : tie.Need-enum-told-2
 enum-told-2 c = search needs
+
+stop-by-requires-2 : tie.Need-stop-by-requires-2
+stop-by-requires-2 c κs = search needs
 
 enum-known-index : tie.Need-enum-known-index
 enum-known-index c = search needs
@@ -64,17 +70,20 @@ completed-requires c κs = search needs
 enum-told-3 : tie.Need-enum-told-3
 enum-told-3 c = search needs
 
-interrupt-requires : tie.Need-interrupt-requires
-interrupt-requires c κs = search needs
+stop-by-requires-3 : tie.Need-stop-by-requires-3
+stop-by-requires-3 c κs = search needs
 
 enum-told-4 : tie.Need-enum-told-4
 enum-told-4 c = search needs
 
+stop-by-requires-4 : tie.Need-stop-by-requires-4
+stop-by-requires-4 c κs = search needs
+
 returns : tie.Need-returns
-returns c = rw (byte-stored, ← c .before .before .before .byte-word .ensures, ← c .before .before .place-of .ensures, c .enum-told .given .1) (record { outcome = refl; memory = refl })
+returns c = rw (byte-stored, ← c .before .before .before .before .byte-word .ensures, ← c .before .before .before .place-of .ensures, c .before .enum-told .given .1, c .stop-by .ensures) (record { outcome = refl; memory = refl })
 
 returns-2 : tie.Need-returns-2
-returns-2 c = rw (byte-stored, ← c .before .before .before .byte-word .ensures, ← c .before .before .place-of .ensures, c .enum-told2 .given .1) (record { outcome = refl; memory = refl })
+returns-2 c = rw (byte-stored, ← c .before .before .before .before .byte-word .ensures, ← c .before .before .before .place-of .ensures, c .before .enum-told2 .given .1, c .stop-by2 .ensures) (record { outcome = refl; memory = refl })
 
 same-length : tie.Need-same-length
 same-length c = search needs
@@ -83,10 +92,10 @@ returns-3 : tie.Need-returns-3
 returns-3 c = rw (byte-stored, ← c .before .before .before .before .before .before .before .before .before .before .before .before .byte-word .ensures, ← c .before .before .before .before .before .before .before .before .before .before .before .place-of .ensures, c .before .before .before .before .before .before .before .before .before .index .given .1, c .completed .ensures, c .before .go-ahead .ensures, c .before .before .set-register .ensures, c .before .before .before .go-along .ensures, c .before .before .before .before .with-byte .ensures, c .before .before .before .before .before .before .before .is-low-byte .ensures) (record { outcome = refl; memory = refl })
 
 returns-4 : tie.Need-returns-4
-returns-4 c = rw (byte-stored, ← c .before .before .before .before .byte-word .ensures, ← c .before .before .before .place-of .ensures, c .before .enum-told3 .given .1, c .interrupt .ensures) (record { outcome = refl; memory = refl })
+returns-4 c = rw (byte-stored, ← c .before .before .before .before .byte-word .ensures, ← c .before .before .before .place-of .ensures, c .before .enum-told3 .given .1, c .stop-by3 .ensures) (record { outcome = refl; memory = refl })
 
 returns-5 : tie.Need-returns-5
-returns-5 c = rw (byte-stored, ← c .before .before .before .byte-word .ensures, ← c .before .before .place-of .ensures, c .enum-told4 .given .1) (record { outcome = refl; memory = refl })
+returns-5 c = rw (byte-stored, ← c .before .before .before .before .byte-word .ensures, ← c .before .before .before .place-of .ensures, c .before .enum-told4 .given .1, c .stop-by4 .ensures) (record { outcome = refl; memory = refl })
 
 pub store-byte-spec : {M : Type 1} → statement M
 store-byte-spec =
@@ -95,7 +104,9 @@ store-byte-spec =
     byte-word-requires
     place-of-requires
     enum-told
+    stop-by-requires
     enum-told-2
+    stop-by-requires-2
     enum-known-index
     is-low-byte-requires
     mul-with-byte
@@ -109,8 +120,9 @@ store-byte-spec =
     go-ahead-requires
     completed-requires
     enum-told-3
-    interrupt-requires
+    stop-by-requires-3
     enum-told-4
+    stop-by-requires-4
     returns
     returns-2
     same-length

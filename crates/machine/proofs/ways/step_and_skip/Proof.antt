@@ -1,12 +1,11 @@
--- `ways::step_and_skip` meets its contract: each arm answers as the definition does there, by what its calls ensure. Assumes nothing.
-use mathlib.Core.Path.{refl}
-use Rattle.machine.specs.Acts.{exec}
+-- `ways::step_and_skip` meets its contract: by what its calls ensure. Assumes nothing.
+use Rattle.machine.proofs.Operands.{had-value, had-stop}
 use borrow.Author.Needs.{needs}
 use Rattle.machine.proofs.ways.step_and_skip.Statement.{statement}
 use Rattle.machine.proofs.ways.step_and_skip.Tie as tie
 
-read-word-requires : tie.Need-read-word-requires
-read-word-requires c κs = search needs
+get-word-requires : tie.Need-get-word-requires
+get-word-requires c κs = search needs
 
 enum-known-w : tie.Need-enum-known-w
 enum-known-w c = search needs
@@ -20,51 +19,36 @@ skipping-requires c κs = search needs
 put-requires : tie.Need-put-requires
 put-requires c κs = search needs
 
-enum-told : tie.Need-enum-told
-enum-told c = search needs
+enum-known-t : tie.Need-enum-known-t
+enum-known-t c = search needs
 
-interrupt-requires : tie.Need-interrupt-requires
-interrupt-requires c κs = search needs
-
-enum-told-2 : tie.Need-enum-told-2
-enum-told-2 c = search needs
+stop-by-requires : tie.Need-stop-by-requires
+stop-by-requires c κs = search needs
 
 same-length : tie.Need-same-length
 same-length c = search needs
 
 returns : tie.Need-returns
-unfolding exec
-returns c = rw (← c .before .before .before .before .before .before .before .before .before .read-word .ensures, c .before .before .before .before .before .before .before .w .given .1) (rw (c .before .before .before .before .skipping .ensures, c .before .before .before .before .before .increment .ensures) at (c .before .before .put .ensures))
+returns c = rw (had-value (c .before .before .before .before .before .before .before .before .before .get-word .ensures) (c .before .before .before .before .before .before .before .w .given .1) _) (rw (c .before .before .before .before .skipping .ensures, c .before .before .before .before .before .increment .ensures) at (c .before .before .put .ensures))
 
 same-length-2 : tie.Need-same-length-2
 same-length-2 c = search needs
 
 returns-2 : tie.Need-returns-2
-unfolding exec
-returns-2 c = rw (← c .before .before .before .read-word .ensures, c .before .enum-told .given .1, c .interrupt .ensures) (record { outcome = refl; memory = refl })
-
-same-length-3 : tie.Need-same-length-3
-same-length-3 c = search needs
-
-returns-3 : tie.Need-returns-3
-unfolding exec
-returns-3 c = rw (← c .before .before .read-word .ensures, c .enum-told2 .given .1) (record { outcome = refl; memory = refl })
+returns-2 c = had-stop (c .before .before .before .before .get-word .ensures) (c .before .before .t .given .1) (c .stop-by .ensures) _
 
 pub step-and-skip-spec : {M : Type 1} → statement M
 step-and-skip-spec =
     tie.close
     (tie.spec
-    read-word-requires
+    get-word-requires
     enum-known-w
     increment-requires
     skipping-requires
     put-requires
-    enum-told
-    interrupt-requires
-    enum-told-2
+    enum-known-t
+    stop-by-requires
     same-length
     returns
     same-length-2
-    returns-2
-    same-length-3
-    returns-3)
+    returns-2)

@@ -1,12 +1,13 @@
--- `ways::take` meets its contract: each arm answers as the definition does there, by what its calls ensure. Assumes nothing.
+-- `ways::take` meets its contract: by what its calls ensure. Assumes nothing.
 use mathlib.Core.Path.{refl}
 use Rattle.machine.specs.Acts.{exec}
+use Rattle.machine.proofs.Operands.{had-value, had-stop}
 use borrow.Author.Needs.{needs}
 use Rattle.machine.proofs.ways.take.Statement.{statement}
 use Rattle.machine.proofs.ways.take.Tie as tie
 
-read-word-requires : tie.Need-read-word-requires
-read-word-requires c κs = search needs
+get-word-requires : tie.Need-get-word-requires
+get-word-requires c κs = search needs
 
 enum-known-w : tie.Need-enum-known-w
 enum-known-w c = search needs
@@ -14,37 +15,31 @@ enum-known-w c = search needs
 apply-requires : tie.Need-apply-requires
 apply-requires c κs = search needs
 
-enum-told : tie.Need-enum-told
-enum-told c = search needs
+completed-requires : tie.Need-completed-requires
+completed-requires c κs = search needs
 
-interrupt-requires : tie.Need-interrupt-requires
-interrupt-requires c κs = search needs
+enum-known-t : tie.Need-enum-known-t
+enum-known-t c = search needs
 
-enum-told-2 : tie.Need-enum-told-2
-enum-told-2 c = search needs
+stop-by-requires : tie.Need-stop-by-requires
+stop-by-requires c κs = search needs
 
 returns : tie.Need-returns
 unfolding exec
-returns c = rw (← c .before .before .before .before .read-word .ensures, c .before .before .w .given .1, c .apply .ensures) (record { outcome = refl; memory = refl })
+returns c = rw (had-value (c .before .before .before .before .before .get-word .ensures) (c .before .before .before .w .given .1) _, c .completed .ensures, c .before .apply .ensures) (record { outcome = refl; memory = refl })
 
 returns-2 : tie.Need-returns-2
-unfolding exec
-returns-2 c = rw (← c .before .before .before .read-word .ensures, c .before .enum-told .given .1, c .interrupt .ensures) (record { outcome = refl; memory = refl })
-
-returns-3 : tie.Need-returns-3
-unfolding exec
-returns-3 c = rw (← c .before .before .read-word .ensures, c .enum-told2 .given .1) (record { outcome = refl; memory = refl })
+returns-2 c = had-stop (c .before .before .before .before .get-word .ensures) (c .before .before .t .given .1) (c .stop-by .ensures) _
 
 pub take-spec : {M : Type 1} → statement M
 take-spec =
     tie.close
     (tie.spec
-    read-word-requires
+    get-word-requires
     enum-known-w
     apply-requires
-    enum-told
-    interrupt-requires
-    enum-told-2
+    completed-requires
+    enum-known-t
+    stop-by-requires
     returns
-    returns-2
-    returns-3)
+    returns-2)
