@@ -1,0 +1,13 @@
+#!/bin/sh
+# Times the library beside plain Rust, and prints its stack and code sizes.
+# A400_LIB_DIR is as for test.sh.
+set -eu
+. "$(dirname "$0")/library.sh"
+cd "$here"
+echo "code of the library, in bytes:"
+size -t "$library/libhost.a" | awk 'END { print "  text " $1 ", data " $2 ", bss " $3 }'
+if [ "$emulated" = yes ]; then
+    echo "the library runs under an emulator here, so that times and stack say nothing"
+    exit 0
+fi
+cargo run --release --quiet --bin bench
