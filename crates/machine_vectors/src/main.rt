@@ -1,13 +1,16 @@
-// Vectors of the step, run and compared with the file stdout. Its lines were worked out by hand from
-// the paper's rules, before the first run; each module says from which.
+// Vectors of the step and the run. Two modules have theirs in code; all others are the lines of the
+// file stdin, whose comments say where the expected lines of the file stdout come from.
 mod all_or_nothing;
-mod kinds;
+mod image;
+mod line;
 mod octal;
 mod overlap;
+mod show;
 mod state;
+mod text;
 
 fn main() {
     overlap::run();
     all_or_nothing::run();
-    kinds::run();
+    text::run_all();
 }
