@@ -1,0 +1,16 @@
+-- Laws of the C interface that belong to no one function.
+--     Records     the register record as words, and back
+--     Called      a call put together from what the machine promises
+--     Picks       a choice out of a table, within it and past it
+--     Sameness    when two lists hold the same words
+--     Writes      the writer of fields, put together from its parts
+--     Again       reading and writing fields are inverse
+--     Tight       each promise fixes its outcome
+-- Assumes nothing.
+pub mod Records
+pub mod Called
+pub mod Picks
+pub mod Sameness
+pub mod Writes
+pub mod Again
+pub mod Tight

@@ -1,0 +1,8 @@
+-- What the calls of the C interface mean, by subject.
+--     Record    the register record as 14 words
+--     Calls     a fresh record, one step, a run
+--     Fields    an instruction as ten flat fields, read and written
+-- Assumes nothing.
+pub mod Record
+pub mod Calls
+pub mod Fields

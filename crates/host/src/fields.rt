@@ -1,0 +1,241 @@
+// Instructions as ten flat fields: the calls that read and write one.
+use crate::choices::alter_at;
+use crate::choices::alter_number;
+use crate::choices::io_at;
+use crate::choices::io_number;
+use crate::choices::long_at;
+use crate::choices::long_number;
+use crate::choices::operation_at;
+use crate::choices::operation_number;
+use crate::choices::register_at;
+use crate::choices::register_number;
+use crate::choices::shift_at;
+use crate::choices::shift_number;
+use crate::exact::exact_at;
+use crate::exact::exact_number;
+use crate::words::copy_words;
+use crate::words::same_words;
+use code::instructions::AlterSkip;
+use code::instructions::Instruction;
+use code::instructions::ShiftRotate;
+use code::instructions::Written;
+use code::instructions::read_instruction;
+use code::instructions::write_instruction;
+use word::bits::weight_of;
+ghost use mathlib.Core.Path.{_≡_};
+ghost use lib.ListN.{length};
+ghost use Rattle.host.specs.Calls.{Answers};
+ghost use Rattle.host.specs.Fields.{fieldsOf, shiftRotateAt, alterSkipAt, instructionAt, writingFields, readCall, writeCall};
+
+fn shift_rotate_fields(s: ShiftRotate) -> [u16; 10]
+    ensures { λ f. ⌜ f ≡ fieldsOf (Instruction.ShiftRotate s) ⌝ }
+{
+    let register = s.register;
+    let shift1 = s.shift1;
+    let shift2 = s.shift2;
+    [
+        1,
+        register_number(register),
+        weight_of(s.enabled1),
+        shift_number(shift1),
+        weight_of(s.cle),
+        weight_of(s.sla),
+        weight_of(s.enabled2),
+        shift_number(shift2),
+        0,
+        0,
+    ]
+}
+
+fn alter_skip_fields(s: AlterSkip) -> [u16; 10]
+    ensures { λ f. ⌜ f ≡ fieldsOf (Instruction.AlterSkip s) ⌝ }
+{
+    let register = s.register;
+    let alter = s.alter;
+    let extend = s.extend;
+    [
+        2,
+        register_number(register),
+        alter_number(alter),
+        weight_of(s.sez),
+        alter_number(extend),
+        weight_of(s.ssa),
+        weight_of(s.sla),
+        weight_of(s.ina),
+        weight_of(s.sza),
+        weight_of(s.rss),
+    ]
+}
+
+fn fields_of(i: Instruction) -> [u16; 10]
+    ensures { λ f. ⌜ f ≡ fieldsOf i ⌝ }
+{
+    match i {
+        Instruction::MemoryReference {
+            operation,
+            indirect,
+            current,
+            offset,
+        } => [
+            0,
+            operation_number(operation),
+            weight_of(indirect),
+            weight_of(current),
+            offset,
+            0,
+            0,
+            0,
+            0,
+            0,
+        ],
+        Instruction::ShiftRotate(s) => shift_rotate_fields(s),
+        Instruction::AlterSkip(s) => alter_skip_fields(s),
+        Instruction::InputOutput {
+            operation,
+            bit11,
+            bit9,
+            select,
+        } => [
+            3,
+            io_number(operation),
+            weight_of(bit11),
+            weight_of(bit9),
+            select,
+            0,
+            0,
+            0,
+            0,
+            0,
+        ],
+        Instruction::LongShift { kind, places } => {
+            [4, long_number(kind), places, 0, 0, 0, 0, 0, 0, 0]
+        }
+        Instruction::Extended(code) => [5, exact_number(code), 0, 0, 0, 0, 0, 0, 0, 0],
+        Instruction::NotBuilt(word) => [6, word, 0, 0, 0, 0, 0, 0, 0, 0],
+    }
+}
+
+fn shift_rotate_at(fields: &[u16]) -> ShiftRotate
+    requires { ⌜ length (now fields) ≡ 10 ⌝ }
+    ensures { λ s. ⌜ s ≡ shiftRotateAt (now (fields .entry)) ⌝ }
+{
+    let register = register_at(fields[1]);
+    let shift1 = shift_at(fields[3]);
+    let shift2 = shift_at(fields[7]);
+    ShiftRotate {
+        register,
+        enabled1: fields[2] == 1,
+        shift1,
+        cle: fields[4] == 1,
+        sla: fields[5] == 1,
+        enabled2: fields[6] == 1,
+        shift2,
+    }
+}
+
+fn alter_skip_at(fields: &[u16]) -> AlterSkip
+    requires { ⌜ length (now fields) ≡ 10 ⌝ }
+    ensures { λ s. ⌜ s ≡ alterSkipAt (now (fields .entry)) ⌝ }
+{
+    let register = register_at(fields[1]);
+    let alter = alter_at(fields[2]);
+    let extend = alter_at(fields[4]);
+    AlterSkip {
+        register,
+        alter,
+        sez: fields[3] == 1,
+        extend,
+        ssa: fields[5] == 1,
+        sla: fields[6] == 1,
+        ina: fields[7] == 1,
+        sza: fields[8] == 1,
+        rss: fields[9] == 1,
+    }
+}
+
+fn instruction_at(fields: &[u16]) -> Instruction
+    requires { ⌜ length (now fields) ≡ 10 ⌝ }
+    ensures { λ i. ⌜ i ≡ instructionAt (now (fields .entry)) ⌝ }
+{
+    let class = fields[0];
+    let first = fields[1];
+    if class == 0 {
+        return Instruction::MemoryReference {
+            operation: operation_at(first),
+            indirect: fields[2] == 1,
+            current: fields[3] == 1,
+            offset: fields[4],
+        };
+    }
+    if class == 1 {
+        return Instruction::ShiftRotate(shift_rotate_at(fields));
+    }
+    if class == 2 {
+        return Instruction::AlterSkip(alter_skip_at(fields));
+    }
+    if class == 3 {
+        return Instruction::InputOutput {
+            operation: io_at(first),
+            bit11: fields[2] == 1,
+            bit9: fields[3] == 1,
+            select: fields[4],
+        };
+    }
+    if class == 4 {
+        return Instruction::LongShift {
+            kind: long_at(first),
+            places: fields[2],
+        };
+    }
+    if class == 5 {
+        return Instruction::Extended(exact_at(first));
+    }
+    Instruction::NotBuilt(first)
+}
+
+// The word that reads as these fields: a field that is out of range, or not used and not 0, is not read again.
+fn write_fields(fields: &[u16]) -> Written
+    requires { ⌜ length (now fields) ≡ 10 ⌝ }
+    ensures { λ w. ⌜ w ≡ writingFields (now (fields .entry)) ⌝ }
+{
+    let i = instruction_at(fields);
+    let again = fields_of(i);
+    if same_words(fields, &again) {
+        return write_instruction(i);
+    }
+    Written::NoWord
+}
+
+#[no_mangle]
+pub extern "C" fn a400_read(word: u16, fields: &mut [u16]) -> u32
+    ensures { λ n. ⌜ Answers (readCall word (now (fields .entry))) n (now (fields .exit)) ⌝ }
+{
+    if fields.len() != 10 {
+        return 8;
+    }
+    let read = fields_of(read_instruction(word));
+    copy_words(&read, fields);
+    0
+}
+
+#[no_mangle]
+pub extern "C" fn a400_write(fields: &[u16], word: &mut [u16]) -> u32
+    ensures { λ n. ⌜ Answers (writeCall (now (fields .entry)) (now (word .entry))) n (now (word .exit)) ⌝ }
+{
+    if fields.len() != 10 {
+        return 8;
+    }
+    if word.len() != 1 {
+        return 8;
+    }
+    match write_fields(fields) {
+        Written::Word(w) => {
+            word[0] = w;
+            0
+        }
+        Written::NoWord => {
+            word[0] = 0;
+            9
+        }
+    }
+}

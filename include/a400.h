@@ -1,0 +1,133 @@
+/*
+ * The HP 1000 A400 machine as a static library: libhost.a.
+ *
+ * Every slice is a pointer and the number of its elements. The caller owns all
+ * of them and lends them for the time of the call: nothing is kept, allocated
+ * or freed. A pointer is not null and is aligned, also where the length is 0;
+ * no two slices of one call overlap; and no other thread touches them during
+ * the call. Beyond that nothing is asked: a length or a value that does not fit
+ * is refused by a reply, and what a refusal leaves is said below.
+ *
+ * Replies of a400_step and a400_run:
+ *
+ *   0  completed
+ *   1  violation: the record holds the interrupt state, memory is as it was
+ *   2  an I/O code that the host must do
+ *   3  an indirect chain that never ends
+ *   4  a physical page beyond the lent memory
+ *   5  a byte or word of LBT, SBT, MBT, CBT, MVW or CMW lies in A or B
+ *   6  the code is not built
+ *   7  the waiting trap cell holds neither JMP nor JSB
+ *   8  bad call
+ *
+ * The record, 14 words in this order:
+ *
+ *    0 A          5 E (0 or 1)     9 violation
+ *    1 B          6 O (0 or 1)    10 central interrupt (0 or 7)
+ *    2 X          7 WMAP          11 waiting trap (0 or 7)
+ *    3 Y          8 IMAP          12 switches (0 to 255)
+ *    4 P                          13 lights (0 to 255)
+ */
+#ifndef A400_H
+#define A400_H
+
+#include <stddef.h>
+#include <stdint.h>
+
+#ifdef __cplusplus
+extern "C" {
+#endif
+
+#define A400_RECORD_WORDS 14
+#define A400_PAGE_REGISTERS 1024
+#define A400_PAGE_WORDS 1024
+#define A400_FIELDS 10
+
+/*
+ * Writes the fresh record: zero throughout except that P is 2. Returns 0. A
+ * record that is not 14 words long is left as given, and 8 is returned.
+ */
+uint32_t a400_fresh(uint16_t *record, size_t record_len);
+
+/*
+ * One step. Returns its reply, 0 to 8. After 0 the record and memory are those
+ * that follow; after 1 the record is the interrupt state and memory is as
+ * given; after every other reply both are as given. The page registers are
+ * always left as given. A bad call, 8, is: a record that is not 14 words or has
+ * a register outside its range, P or violation over 077777 among them; a trap
+ * that waits with protection on; page registers that are not 1,024; memory that
+ * is not 1 to 16,384 whole pages.
+ */
+uint32_t a400_step(uint16_t *record, size_t record_len,
+                   uint16_t *pages, size_t pages_len,
+                   uint16_t *memory, size_t memory_len);
+
+/*
+ * A run of up to `budget` steps, at most 1,000,000: it ends with the budget, and
+ * returns 0, or with the first step that replies other than 0, and returns that
+ * reply. count[0] is the number of steps that replied 0 or 1, and the record and
+ * memory are as those steps left them. A bad call is that of a400_step or a
+ * greater budget: 8, with record and memory as given and count[0] 0. A count
+ * that is not one number long is a bad call too, and is left as given.
+ */
+uint32_t a400_run(uint16_t *record, size_t record_len,
+                  uint16_t *pages, size_t pages_len,
+                  uint16_t *memory, size_t memory_len,
+                  uint32_t budget,
+                  uint32_t *count, size_t count_len);
+
+/*
+ * The fields of an instruction, ten numbers: fields[0] is the class, and each
+ * class uses the first of the rest. Fields that a class does not use are 0.
+ *
+ *   0 memory reference  1 operation (2 to 15)  2 indirect  3 current page
+ *                       4 offset (0 to 1023)
+ *   1 shift/rotate      1 register (0 A, 1 B)  2 first shift enabled
+ *                       3 first shift (0 to 7)  4 CLE  5 SLA
+ *                       6 second shift enabled  7 second shift (0 to 7)
+ *   2 alter/skip        1 register (0 A, 1 B)  2 alter  3 SEZ  4 extend  5 SSA
+ *                       6 SLA  7 INA  8 SZA  9 RSS
+ *   3 I/O               1 operation (0 to 7)  2 bit 11  3 bit 9
+ *                       4 select code (0 to 63)
+ *   4 long shift        1 kind (0 to 5)  2 places (1 to 16)
+ *   5 exact code        1 number (0 to 54)
+ *   6 not built         1 the word
+ *
+ * A flag is 0 or 1.
+ *   memory reference operations, from 2: AND JSB XOR JMP IOR ISZ ADA ADB CPA CPB
+ *       LDA LDB STA STB
+ *   shifts, from 0: ALS ARS RAL RAR ALR ERA ELA ALF
+ *   alter and extend: 0 keep, 1 clear, 2 complement, 3 ones
+ *   I/O operations, from 0: HLT, STF (CLF with bit 9), SFC, SFS, MIA, LIA, OTA,
+ *       STC (CLC with bit 11)
+ *   long shifts, from 0: ASL LSL RRL ASR LSR RRR
+ *   exact codes:
+ *        0 XLA1  1 XLA2  2 XLB1  3 XLB2  4 XSA1  5 XSA2  6 XSB1  7 XSB2
+ *        8 XCA1  9 XCA2 10 XCB1 11 XCB2 12 SAX  13 SAY  14 SBX  15 SBY
+ *       16 CAX  17 CAY  18 CBX  19 CBY  20 LAX  21 LAY  22 LBX  23 LBY
+ *       24 CXA  25 CYA  26 CXB  27 CYB  28 XAX  29 XAY  30 XBX  31 XBY
+ *       32 STX  33 STY  34 LDX  35 LDY  36 ADX  37 ADY  38 ISX  39 ISY
+ *       40 DSX  41 DSY  42 MPY  43 DIV  44 DLD  45 DST  46 LBT  47 SBT
+ *       48 MBT  49 CBT  50 SBS  51 CBS  52 TBS  53 CMW  54 MVW
+ */
+
+/*
+ * Reads a word as an instruction: sets all ten fields and returns 0. Every word
+ * reads as one. Fields that are not ten are left as given, and 8 is returned.
+ */
+uint32_t a400_read(uint16_t word, uint16_t *fields, size_t fields_len);
+
+/*
+ * Writes the word that reads as these fields: sets word[0] and returns 0. Where
+ * no word reads as these fields it sets word[0] to 0 and returns 9. Where the
+ * fields are not ten or the word is not one it returns 8 and leaves the word as
+ * given. The fields are only read.
+ */
+uint32_t a400_write(const uint16_t *fields, size_t fields_len,
+                    uint16_t *word, size_t word_len);
+
+#ifdef __cplusplus
+}
+#endif
+
+#endif
