@@ -213,7 +213,14 @@ pub fn load_double(at: u16, words: u16, r: Registers, pages: &[u16], memory: &[u
     }
 }
 
-fn load_second(v: u16, second: u16, words: u16, r: Registers, pages: &[u16], memory: &[u16]) -> Stepped
+fn load_second(
+    v: u16,
+    second: u16,
+    words: u16,
+    r: Registers,
+    pages: &[u16],
+    memory: &[u16],
+) -> Stepped
     ensures { λ s. ⌜ Performs (now (pages .entry)) (load Map.Execute second (λ w. fin (λ t. ahead words (withB (withA t v) w)))) r (now (memory .entry)) s (now (memory .entry)) ⌝ }
 {
     match get_word(Map::Execute, second, r, pages, memory) {
