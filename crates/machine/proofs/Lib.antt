@@ -1,5 +1,6 @@
 -- Laws of the machine that belong to no one function.
 --     Operands        how a program goes on past its reading parts
+--     Doubles         two stores by one test of both places
 --     Bytes           how a byte store ends, by its place
 --     Comparisons     one turn of a comparison
 --     Ranges          the tests and stores of a move, element by element
@@ -13,6 +14,7 @@
 --     CasesStrings    C13, by computation
 --     Tight           each promise fixes its outcome
 pub mod Operands
+pub mod Doubles
 pub mod Bytes
 pub mod Comparisons
 pub mod Ranges

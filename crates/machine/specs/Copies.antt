@@ -3,12 +3,18 @@
 --     perPage, Run                            the elements of a page; a run of elements on one page
 --     placeIn, indexOf, placesIn              places: of an address, a word, a memory
 --     carried, copies                         one element copied; several, one after another
+--     testedPlace .. memoryAt                 for `src/ways.rt`: two places tested, and a store at a place that was tested
 -- Assumes nothing.
 use Prim.Native.Nat.{ℕ, zero, suc, _<_, _≤_, _+_, _*_, _/_, _%_}
 use mathlib.Core.List.{List}
 use lib.ListN.{length, getD, set}
 use Rattle.word.specs.Words.{byteOf, withByte}
 use Rattle.maps.specs.Bytes.{isLowByte}
+use Rattle.maps.specs.declared.pages.Place.{Place}
+use Rattle.machine.specs.Record.{withA, withB}
+use Rattle.machine.specs.declared.record.Registers.{Registers}
+use Rattle.machine.specs.declared.replies.Trouble.{Trouble}
+use Rattle.machine.specs.declared.ways.Tested.{Tested}
 use Rattle.machine.specs.declared.strings.Element.{Element}
 use Rattle.machine.specs.declared.strings.Element.the-variants.{Word, Byte}
 
@@ -43,3 +49,32 @@ carried Byte i j m = set m (j / 2) (withByte (isLowByte j) (getD m (j / 2) 0) (b
 unfoldable pub copies : Element → ℕ → ℕ → ℕ → List ℕ → List ℕ
 copies u i j zero m = m
 copies u i j (suc n) m = copies u (i + 1) (j + 1) n (carried u i j m)
+
+-- DST: the tests of two places, and a store at a place that was tested
+abbrev pub testedPlace : Place → Tested
+testedPlace Place.A = Tested.Sound
+testedPlace Place.B = Tested.Sound
+testedPlace (Place.Memory i) = Tested.Sound
+testedPlace Place.Closed = Tested.Ends Trouble.Violation
+testedPlace (Place.Absent page) = Tested.Ends Trouble.Absent
+
+abbrev pub testedPlaces : Place → Place → Tested
+testedPlaces Place.A q = testedPlace q
+testedPlaces Place.B q = testedPlace q
+testedPlaces (Place.Memory i) q = testedPlace q
+testedPlaces Place.Closed q = Tested.Ends Trouble.Violation
+testedPlaces (Place.Absent page) q = Tested.Ends Trouble.Absent
+
+abbrev pub registersAt : Place → ℕ → Registers → Registers
+registersAt Place.A v r = withA r v
+registersAt Place.B v r = withB r v
+registersAt (Place.Memory i) v r = r
+registersAt Place.Closed v r = r
+registersAt (Place.Absent page) v r = r
+
+abbrev pub memoryAt : Place → ℕ → List ℕ → List ℕ
+memoryAt Place.A v m = m
+memoryAt Place.B v m = m
+memoryAt (Place.Memory i) v m = set m i v
+memoryAt Place.Closed v m = m
+memoryAt (Place.Absent page) v m = m

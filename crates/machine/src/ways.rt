@@ -30,8 +30,10 @@ use word::sums::increment;
 use word::sums::past;
 ghost use mathlib.Core.Path.{_≡_};
 ghost use mathlib.Core.Bool.{false};
-ghost use Prim.Native.Nat.{_<_};
-ghost use lib.ListN.{length, set};
+ghost use Prim.Native.Nat.{ℕ, _<_};
+ghost use lib.ListN.{length};
+ghost use Rattle.maps.specs.declared.pages.Place.{Place as Where};
+ghost use Rattle.machine.specs.Copies.{testedPlace, testedPlaces, registersAt, memoryAt};
 ghost use Rattle.machine.specs.Record.{withA, withB, withO};
 ghost use Rattle.machine.specs.Acts.{Performs, Ends, exec, load, save, fin};
 ghost use Rattle.machine.specs.Ways.{flagged, quotient, taken, stored, ahead, goOn, wayAct};
@@ -232,70 +234,69 @@ fn load_second(
     }
 }
 
+// Whether a word can be stored at a place, or what ends the step.
+enum Tested {
+    Sound,
+    Ends(Trouble),
+}
+
+fn test_place(place: Place) -> Tested
+    ensures { λ t. ⌜ t ≡ testedPlace place ⌝ }
+{
+    match place {
+        Place::A => Tested::Sound,
+        Place::B => Tested::Sound,
+        Place::Memory(_) => Tested::Sound,
+        Place::Closed => Tested::Ends(Trouble::Violation),
+        Place::Absent(_) => Tested::Ends(Trouble::Absent),
+    }
+}
+
+// The same of two places: the first trouble met decides.
+fn test_places(first: Place, second: Place) -> Tested
+    ensures { λ t. ⌜ t ≡ testedPlaces first second ⌝ }
+{
+    match first {
+        Place::A => test_place(second),
+        Place::B => test_place(second),
+        Place::Memory(_) => test_place(second),
+        Place::Closed => Tested::Ends(Trouble::Violation),
+        Place::Absent(_) => Tested::Ends(Trouble::Absent),
+    }
+}
+
+// A word is stored at a place that was tested.
+fn store_at(place: Place, value: u16, s: Registers, memory: &mut [u16]) -> Registers
+    requires { ⌜ ((i : ℕ) → place ≡ Where.Memory i → i < length (now memory)) ⌝ }
+    ensures { λ t. ⌜ (t ≡ registersAt place value s) × (now (memory .exit) ≡ memoryAt place value (now (memory .entry))) ⌝ }
+{
+    match place {
+        Place::A => set_register(Register::A, s, value),
+        Place::B => set_register(Register::B, s, value),
+        Place::Memory(i) => {
+            memory[i] = value;
+            s
+        }
+        Place::Closed => s,
+        Place::Absent(_) => s,
+    }
+}
+
 // DST: the values at the start, both places tested before either store.
 pub fn store_double(at: u16, words: u16, r: Registers, pages: &[u16], memory: &mut [u16]) -> Stepped
     ensures { λ s. ⌜ Performs (now (pages .entry)) (wayAct Way.StoreDouble r at words) r (now (memory .entry)) s (now (memory .exit)) ⌝ }
 {
-    let second = past(at, 1);
-    let s = go_ahead(words, r);
-    match place_of(
-        pages,
-        r.wmap,
-        Map::Execute,
-        Purpose::Store,
-        at,
-        memory.len(),
-    ) {
-        Place::A => {
-            let t = set_register(Register::A, s, r.a);
-            put_last(r.b, Map::Execute, second, t, r, pages, memory)
+    let length = memory.len();
+    let next = past(at, 1);
+    let first = place_of(pages, r.wmap, Map::Execute, Purpose::Store, at, length);
+    let second = place_of(pages, r.wmap, Map::Execute, Purpose::Store, next, length);
+    match test_places(first, second) {
+        Tested::Sound => {
+            let s = go_ahead(words, r);
+            let t = store_at(first, r.a, s, memory);
+            completed(store_at(second, r.b, t, memory))
         }
-        Place::B => {
-            let t = set_register(Register::B, s, r.a);
-            put_last(r.b, Map::Execute, second, t, r, pages, memory)
-        }
-        Place::Memory(i) => store_second(i, second, s, r, pages, memory),
-        Place::Closed => stop_by(Trouble::Violation, r),
-        Place::Absent(_) => stop_by(Trouble::Absent, r),
-    }
-}
-
-// A goes to the word i of memory and B to an address, if that can be stored. The registers are then s,
-// but for what the second store changes.
-fn store_second(
-    i: usize,
-    at: u16,
-    s: Registers,
-    r: Registers,
-    pages: &[u16],
-    memory: &mut [u16],
-) -> Stepped
-    requires { ⌜ i < length (now memory) ⌝ }
-    ensures { λ t. ⌜ Ends r (now (memory .entry)) (exec (now (pages .entry)) (save Map.Execute at (r .b) (fin (λ q. q))) s (set (now (memory .entry)) i (r .a))) t (now (memory .exit)) ⌝ }
-{
-    match place_of(
-        pages,
-        s.wmap,
-        Map::Execute,
-        Purpose::Store,
-        at,
-        memory.len(),
-    ) {
-        Place::A => {
-            memory[i] = r.a;
-            completed(set_register(Register::A, s, r.b))
-        }
-        Place::B => {
-            memory[i] = r.a;
-            completed(set_register(Register::B, s, r.b))
-        }
-        Place::Memory(j) => {
-            memory[i] = r.a;
-            memory[j] = r.b;
-            completed(s)
-        }
-        Place::Closed => stop_by(Trouble::Violation, r),
-        Place::Absent(_) => stop_by(Trouble::Absent, r),
+        Tested::Ends(t) => stop_by(t, r),
     }
 }
 
