@@ -10,6 +10,7 @@ use crate::replies::Reply;
 use crate::replies::Stepped;
 use crate::replies::Trouble;
 use crate::replies::completed;
+use crate::replies::refuse;
 use crate::replies::stop_by;
 use crate::ways::set_flags;
 use code::codes::Index;
@@ -58,7 +59,7 @@ fn shift_place(enabled: bool, code: ShiftCode, w: u16, e: bool) -> Shifted
     pass(code, w, e)
 }
 
-pub fn shift_rotate(i: ShiftRotate, r: Registers) -> Registers
+pub(crate) fn shift_rotate(i: ShiftRotate, r: Registers) -> Registers
     ensures { λ s. ⌜ s ≡ shiftRotated i r ⌝ }
 {
     let g = i.register;
@@ -133,7 +134,7 @@ fn end_alter(i: AlterSkip, w: u16, e: bool, r: Registers) -> Registers
     go_skipping(1, skip, set_register(g, s, w))
 }
 
-pub fn alter_skip(i: AlterSkip, r: Registers) -> Registers
+pub(crate) fn alter_skip(i: AlterSkip, r: Registers) -> Registers
     ensures { λ s. ⌜ s ≡ alterSkipped i r ⌝ }
 {
     let g = i.register;
@@ -144,7 +145,7 @@ pub fn alter_skip(i: AlterSkip, r: Registers) -> Registers
     end_alter(i, w, e, r)
 }
 
-pub fn long_rotate(kind: LongShift, n: u16, r: Registers) -> Registers
+pub(crate) fn long_rotate(kind: LongShift, n: u16, r: Registers) -> Registers
     ensures { λ s. ⌜ s ≡ longRotated kind n r ⌝ }
 {
     let t = long_shift(kind, n, r.b, r.a, r.o);
@@ -156,21 +157,21 @@ pub fn long_rotate(kind: LongShift, n: u16, r: Registers) -> Registers
 }
 
 // CAX and its kin.
-pub fn copy_to_index(g: Register, i: Index, r: Registers) -> Registers
+pub(crate) fn copy_to_index(g: Register, i: Index, r: Registers) -> Registers
     ensures { λ s. ⌜ s ≡ copiedToIndex g i r ⌝ }
 {
     go_ahead(1, set_index(i, r, register(g, r)))
 }
 
 // CXA and its kin.
-pub fn copy_from_index(g: Register, i: Index, r: Registers) -> Registers
+pub(crate) fn copy_from_index(g: Register, i: Index, r: Registers) -> Registers
     ensures { λ s. ⌜ s ≡ copiedFromIndex g i r ⌝ }
 {
     go_ahead(1, set_register(g, r, index(i, r)))
 }
 
 // XAX and its kin.
-pub fn exchange(g: Register, i: Index, r: Registers) -> Registers
+pub(crate) fn exchange(g: Register, i: Index, r: Registers) -> Registers
     ensures { λ s. ⌜ s ≡ exchanged g i r ⌝ }
 {
     let s = set_register(g, r, index(i, r));
@@ -178,7 +179,7 @@ pub fn exchange(g: Register, i: Index, r: Registers) -> Registers
 }
 
 // ISX, DSX, ISY, DSY, whose register becomes w.
-pub fn step_index(i: Index, w: u16, r: Registers) -> Registers
+pub(crate) fn step_index(i: Index, w: u16, r: Registers) -> Registers
     ensures { λ s. ⌜ s ≡ indexStepped i w r ⌝ }
 {
     go_skipping(1, w == 0, set_index(i, r, w))
@@ -205,16 +206,6 @@ fn is_halt(io: IoOperation) -> bool
         IoOperation::Lia => false,
         IoOperation::Ota => false,
         IoOperation::Control => false,
-    }
-}
-
-// For the host to do.
-fn hand_over(r: Registers) -> Stepped
-    ensures { λ s. ⌜ s ≡ record { reply = Reply.InputOutput; registers = r } ⌝ }
-{
-    Stepped {
-        reply: Reply::InputOutput,
-        registers: r,
     }
 }
 
@@ -257,29 +248,35 @@ fn panel(io: IoOperation, bit11: bool, bit9: bool, r: Registers) -> Stepped
     ensures { λ s. ⌜ PerformsAlone (panelAct io bit11 bit9) r s ⌝ }
 {
     match io {
-        IoOperation::Hlt => hand_over(r),
+        IoOperation::Hlt => refuse(Reply::InputOutput, r),
         IoOperation::Flag => completed(set_overflow(!bit9, r)),
         IoOperation::Sfc => completed(test_overflow(!r.o, bit9, r)),
         IoOperation::Sfs => completed(test_overflow(r.o, bit9, r)),
-        IoOperation::Mia => hand_over(r),
+        IoOperation::Mia => refuse(Reply::InputOutput, r),
         IoOperation::Lia => {
             if bit9 {
-                return hand_over(r);
+                return refuse(Reply::InputOutput, r);
             }
             completed(take_switches(register_of(bit11), r))
         }
         IoOperation::Ota => {
             if bit9 {
-                return hand_over(r);
+                return refuse(Reply::InputOutput, r);
             }
             completed(put_lights(register_of(bit11), r))
         }
-        IoOperation::Control => hand_over(r),
+        IoOperation::Control => refuse(Reply::InputOutput, r),
     }
 }
 
 // With protection on, a HLT is a violation, and so is every other select code.
-pub fn input_output(io: IoOperation, bit11: bool, bit9: bool, select: u16, r: Registers) -> Stepped
+pub(crate) fn input_output(
+    io: IoOperation,
+    bit11: bool,
+    bit9: bool,
+    select: u16,
+    r: Registers,
+) -> Stepped
     ensures { λ s. ⌜ PerformsAlone (ioAct io bit11 bit9 select r) r s ⌝ }
 {
     if high_bit(r.wmap) & (is_halt(io) | (select != 1)) {
@@ -288,5 +285,5 @@ pub fn input_output(io: IoOperation, bit11: bool, bit9: bool, select: u16, r: Re
     if select == 1 {
         return panel(io, bit11, bit9, r);
     }
-    hand_over(r)
+    refuse(Reply::InputOutput, r)
 }

@@ -24,7 +24,7 @@ ghost use Rattle.machine.specs.Ways.{wayAct};
 ghost use Rattle.machine.specs.Rules.{memoryWay, memoryWord, trapWay};
 
 // The operation's way.
-pub fn memory_way(operation: Operation) -> Way
+pub(crate) fn memory_way(operation: Operation) -> Way
     ensures { λ r. ⌜ r ≡ memoryWay operation ⌝ }
 {
     match operation {
@@ -46,7 +46,7 @@ pub fn memory_way(operation: Operation) -> Way
 }
 
 // The instruction's address as an address word.
-pub fn memory_word(indirect: bool, current: bool, offset: u16, p: u16) -> u16
+pub(crate) fn memory_word(indirect: bool, current: bool, offset: u16, p: u16) -> u16
     ensures { λ r. ⌜ r ≡ memoryWord indirect current offset p ⌝ }
 {
     if current {
@@ -57,7 +57,7 @@ pub fn memory_word(indirect: bool, current: bool, offset: u16, p: u16) -> u16
 }
 
 // An instruction that goes its way at the address that its word leads to.
-pub fn memory_reference(
+pub(crate) fn memory_reference(
     way: Way,
     word: u16,
     r: Registers,
@@ -105,7 +105,7 @@ fn trap_jump_saving(word: u16, r: Registers, pages: &[u16], memory: &mut [u16]) 
 }
 
 // The word of a trap cell that is a memory reference: only JMP and JSB are carried out.
-pub fn trap_reference(
+pub(crate) fn trap_reference(
     operation: Operation,
     word: u16,
     r: Registers,

@@ -305,7 +305,7 @@ fn move_then(
 }
 
 // A and B end past their ranges.
-pub fn move_elements(
+pub(crate) fn move_elements(
     u: Element,
     from: Map,
     to: Map,
@@ -324,7 +324,7 @@ pub fn move_elements(
 }
 
 // MVW and MBT.
-pub fn move_string(u: Element, r: Registers, pages: &[u16], memory: &mut [u16]) -> Stepped
+pub(crate) fn move_string(u: Element, r: Registers, pages: &[u16], memory: &mut [u16]) -> Stepped
     ensures { λ s. ⌜ Performs (now (pages .entry)) (moveAct u r) r (now (memory .entry)) s (now (memory .exit)) ⌝ }
 {
     match count_at(r, pages, memory) {

@@ -17,7 +17,7 @@ pub enum Got {
 }
 
 // The word at an address.
-pub fn get_word(map: Map, at: u16, r: Registers, pages: &[u16], memory: &[u16]) -> Got
+pub(crate) fn get_word(map: Map, at: u16, r: Registers, pages: &[u16], memory: &[u16]) -> Got
     ensures { λ g. ⌜ Gives (now (pages .entry)) (load map at) r (now (memory .entry)) g ⌝ }
 {
     match read_word(pages, memory, r.wmap, map, at, r.a, r.b) {
@@ -28,7 +28,7 @@ pub fn get_word(map: Map, at: u16, r: Registers, pages: &[u16], memory: &[u16]) 
 }
 
 // Where an address word leads.
-pub fn get_target(word: u16, r: Registers, pages: &[u16], memory: &[u16]) -> Got
+pub(crate) fn get_target(word: u16, r: Registers, pages: &[u16], memory: &[u16]) -> Got
     ensures { λ g. ⌜ Gives (now (pages .entry)) (following word) r (now (memory .entry)) g ⌝ }
 {
     match follow(pages, memory, r.wmap, word, r.a, r.b) {
@@ -40,7 +40,7 @@ pub fn get_target(word: u16, r: Registers, pages: &[u16], memory: &[u16]) -> Got
 }
 
 // Where the word leads that follows the instruction's first by n.
-pub fn get_address(n: u16, r: Registers, pages: &[u16], memory: &[u16]) -> Got
+pub(crate) fn get_address(n: u16, r: Registers, pages: &[u16], memory: &[u16]) -> Got
     ensures { λ g. ⌜ Gives (now (pages .entry)) (operand n r) r (now (memory .entry)) g ⌝ }
 {
     match get_word(Map::Execute, past(r.p, n), r, pages, memory) {

@@ -47,7 +47,7 @@ pub fn fresh_record() -> Registers
     }
 }
 
-pub fn register(g: Register, r: Registers) -> u16
+pub(crate) fn register(g: Register, r: Registers) -> u16
     ensures { λ v. ⌜ v ≡ inRegister g r ⌝ }
 {
     match g {
@@ -56,7 +56,7 @@ pub fn register(g: Register, r: Registers) -> u16
     }
 }
 
-pub fn set_register(g: Register, r: Registers, v: u16) -> Registers
+pub(crate) fn set_register(g: Register, r: Registers, v: u16) -> Registers
     ensures { λ s. ⌜ s ≡ withRegister g r v ⌝ }
 {
     let mut s = r;
@@ -67,7 +67,7 @@ pub fn set_register(g: Register, r: Registers, v: u16) -> Registers
     s
 }
 
-pub fn index(i: Index, r: Registers) -> u16
+pub(crate) fn index(i: Index, r: Registers) -> u16
     ensures { λ v. ⌜ v ≡ inIndex i r ⌝ }
 {
     match i {
@@ -76,7 +76,7 @@ pub fn index(i: Index, r: Registers) -> u16
     }
 }
 
-pub fn set_index(i: Index, r: Registers, v: u16) -> Registers
+pub(crate) fn set_index(i: Index, r: Registers, v: u16) -> Registers
     ensures { λ s. ⌜ s ≡ withIndex i r v ⌝ }
 {
     let mut s = r;
@@ -87,7 +87,7 @@ pub fn set_index(i: Index, r: Registers, v: u16) -> Registers
     s
 }
 
-pub fn go_to(q: u16, r: Registers) -> Registers
+pub(crate) fn go_to(q: u16, r: Registers) -> Registers
     ensures { λ s. ⌜ s ≡ withP r q ⌝ }
 {
     let mut s = r;
@@ -96,7 +96,7 @@ pub fn go_to(q: u16, r: Registers) -> Registers
 }
 
 // P moved on by n words, in its 15 bits.
-pub fn go_ahead(n: u16, r: Registers) -> Registers
+pub(crate) fn go_ahead(n: u16, r: Registers) -> Registers
     ensures { λ s. ⌜ s ≡ ahead n r ⌝ }
 {
     let mut s = r;
@@ -105,14 +105,14 @@ pub fn go_ahead(n: u16, r: Registers) -> Registers
 }
 
 // The address n words past p, and one more where a skip is met.
-pub fn skipping(p: u16, n: u16, skip: bool) -> u16
+pub(crate) fn skipping(p: u16, n: u16, skip: bool) -> u16
     ensures { λ q. ⌜ q ≡ address p (n + weight skip) ⌝ }
 {
     past(past(p, n), word::bits::weight_of(skip))
 }
 
 // P moved on by n words, and one more where a skip is met.
-pub fn go_skipping(n: u16, skip: bool, r: Registers) -> Registers
+pub(crate) fn go_skipping(n: u16, skip: bool, r: Registers) -> Registers
     ensures { λ s. ⌜ s ≡ ahead (n + weight skip) r ⌝ }
 {
     let mut s = r;
@@ -121,7 +121,7 @@ pub fn go_skipping(n: u16, skip: bool, r: Registers) -> Registers
 }
 
 // The interrupt state of a violation.
-pub fn interrupt(r: Registers) -> Registers
+pub(crate) fn interrupt(r: Registers) -> Registers
     ensures { λ s. ⌜ s ≡ interrupted r ⌝ }
 {
     let mut s = r;

@@ -29,7 +29,7 @@ pub struct Ran {
     pub registers: Registers,
 }
 
-pub fn completed(r: Registers) -> Stepped
+pub(crate) fn completed(r: Registers) -> Stepped
     ensures { λ s. ⌜ s ≡ record { reply = Reply.Completed; registers = r } ⌝ }
 {
     Stepped {
@@ -38,7 +38,7 @@ pub fn completed(r: Registers) -> Stepped
     }
 }
 
-pub fn refuse(reply: Reply, r: Registers) -> Stepped
+pub(crate) fn refuse(reply: Reply, r: Registers) -> Stepped
     ensures { λ s. ⌜ s ≡ record { reply = reply; registers = r } ⌝ }
 {
     Stepped {
@@ -56,7 +56,7 @@ pub enum Trouble {
 }
 
 // The step has ended: a violation interrupts, any other trouble leaves the registers as given.
-pub fn stop_by(t: Trouble, r: Registers) -> Stepped
+pub(crate) fn stop_by(t: Trouble, r: Registers) -> Stepped
     ensures { λ s. ⌜ s ≡ answer r (troubled t) ⌝ }
 {
     match t {

@@ -239,7 +239,7 @@ fn carry_out_trap(word: u16, r: Registers, pages: &[u16], memory: &mut [u16]) ->
 }
 
 // The fetch, through Execute: at P, or at the waiting trap.
-pub fn fetch(r: Registers, pages: &[u16], memory: &mut [u16]) -> Stepped
+pub(crate) fn fetch(r: Registers, pages: &[u16], memory: &mut [u16]) -> Stepped
     ensures { λ s. ⌜ Performs (now (pages .entry)) (stepAct r) r (now (memory .entry)) s (now (memory .exit)) ⌝ }
 {
     if r.trap == 0 {
@@ -265,7 +265,7 @@ fn is_valid(r: Registers) -> bool
 }
 
 // Whether page registers and memory of these lengths, and the record, make a good call.
-pub fn is_good_call(registers: usize, words: usize, r: Registers) -> bool
+pub(crate) fn is_good_call(registers: usize, words: usize, r: Registers) -> bool
     ensures { λ t. ⌜ t ≡ goodCall registers words r ⌝ }
 {
     let whole = (words % 1024 == 0) & (1024 <= words) & (words <= 16777216);

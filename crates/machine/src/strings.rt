@@ -42,7 +42,7 @@ pub enum Element {
 }
 
 // The address of the word that holds an element.
-pub fn word_at(u: Element, at: u16) -> u16
+pub(crate) fn word_at(u: Element, at: u16) -> u16
     ensures { λ w. ⌜ w ≡ wordAt u at ⌝ }
 {
     match u {
@@ -52,7 +52,7 @@ pub fn word_at(u: Element, at: u16) -> u16
 }
 
 // The address n elements past another.
-pub fn go_along(u: Element, at: u16, n: u16) -> u16
+pub(crate) fn go_along(u: Element, at: u16, n: u16) -> u16
     ensures { λ w. ⌜ w ≡ along u at n ⌝ }
 {
     match u {
@@ -62,7 +62,7 @@ pub fn go_along(u: Element, at: u16, n: u16) -> u16
 }
 
 // The word that holds an element, which may not be A or B.
-pub fn get_element(u: Element, at: u16, r: Registers, pages: &[u16], memory: &[u16]) -> Got
+pub(crate) fn get_element(u: Element, at: u16, r: Registers, pages: &[u16], memory: &[u16]) -> Got
     ensures { λ g. ⌜ Gives (now (pages .entry)) (loadElement u at) r (now (memory .entry)) g ⌝ }
 {
     let holder = word_at(u, at);
@@ -73,14 +73,14 @@ pub fn get_element(u: Element, at: u16, r: Registers, pages: &[u16], memory: &[u
 }
 
 // Whether a count is 0 or has bit 15 set.
-pub fn is_none(count: u16) -> bool
+pub(crate) fn is_none(count: u16) -> bool
     ensures { λ n. ⌜ n ≡ noneToDo count ⌝ }
 {
     count == 0 || count / 32768 % 2 == 1
 }
 
 // The count of a string instruction.
-pub fn count_at(r: Registers, pages: &[u16], memory: &[u16]) -> Got
+pub(crate) fn count_at(r: Registers, pages: &[u16], memory: &[u16]) -> Got
     ensures { λ g. ⌜ Gives (now (pages .entry)) (count r) r (now (memory .entry)) g ⌝ }
 {
     match get_address(1, r, pages, memory) {
@@ -90,7 +90,7 @@ pub fn count_at(r: Registers, pages: &[u16], memory: &[u16]) -> Got
 }
 
 // LBT
-pub fn load_byte(r: Registers, pages: &[u16], memory: &[u16]) -> Stepped
+pub(crate) fn load_byte(r: Registers, pages: &[u16], memory: &[u16]) -> Stepped
     ensures { λ s. ⌜ Performs (now (pages .entry)) (byteLoaded r) r (now (memory .entry)) s (now (memory .entry)) ⌝ }
 {
     match get_element(Element::Byte, r.b, r, pages, memory) {
@@ -107,7 +107,7 @@ pub fn load_byte(r: Registers, pages: &[u16], memory: &[u16]) -> Stepped
 }
 
 // SBT: the other half of the word stays.
-pub fn store_byte(r: Registers, pages: &[u16], memory: &mut [u16]) -> Stepped
+pub(crate) fn store_byte(r: Registers, pages: &[u16], memory: &mut [u16]) -> Stepped
     ensures { λ s. ⌜ Performs (now (pages .entry)) (byteStored r) r (now (memory .entry)) s (now (memory .exit)) ⌝ }
 {
     let holder = byte_word(r.b);
@@ -191,7 +191,7 @@ fn end_comparison(n: u16, at: u16, end: u16, r: Registers) -> Registers
 }
 
 // One pair after another, to the first difference.
-pub fn compare_strings(
+pub(crate) fn compare_strings(
     u: Element,
     count: u16,
     r: Registers,
@@ -224,7 +224,7 @@ pub fn compare_strings(
 }
 
 // CMW and CBT
-pub fn compare(u: Element, r: Registers, pages: &[u16], memory: &[u16]) -> Stepped
+pub(crate) fn compare(u: Element, r: Registers, pages: &[u16], memory: &[u16]) -> Stepped
     ensures { λ s. ⌜ Performs (now (pages .entry)) (compareAct u r) r (now (memory .entry)) s (now (memory .entry)) ⌝ }
 {
     match count_at(r, pages, memory) {
@@ -239,7 +239,7 @@ pub fn compare(u: Element, r: Registers, pages: &[u16], memory: &[u16]) -> Stepp
 }
 
 // SBS, CBS and TBS: the address of the mask, that of the target, the mask, the target.
-pub fn mask_bits(x: Bits, r: Registers, pages: &[u16], memory: &mut [u16]) -> Stepped
+pub(crate) fn mask_bits(x: Bits, r: Registers, pages: &[u16], memory: &mut [u16]) -> Stepped
     ensures { λ s. ⌜ Performs (now (pages .entry)) (maskAct x r) r (now (memory .entry)) s (now (memory .exit)) ⌝ }
 {
     match get_address(1, r, pages, memory) {

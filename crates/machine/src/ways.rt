@@ -72,7 +72,7 @@ pub enum Way {
 }
 
 // E and O by a sum: neither is cleared.
-pub fn set_flags(t: word::sums::Sum, r: Registers) -> Registers
+pub(crate) fn set_flags(t: word::sums::Sum, r: Registers) -> Registers
     ensures { λ s. ⌜ s ≡ flagged t r ⌝ }
 {
     let mut s = r;
@@ -107,7 +107,7 @@ fn take_product(t: Product, r: Registers) -> Registers
 }
 
 // The registers after a word was read.
-pub fn apply(taking: Taking, w: u16, words: u16, r: Registers) -> Registers
+pub(crate) fn apply(taking: Taking, w: u16, words: u16, r: Registers) -> Registers
     ensures { λ s. ⌜ s ≡ taken taking w words r ⌝ }
 {
     match taking {
@@ -131,7 +131,7 @@ pub fn apply(taking: Taking, w: u16, words: u16, r: Registers) -> Registers
 }
 
 // The word at an address is read, and the registers follow.
-pub fn take(
+pub(crate) fn take(
     taking: Taking,
     map: Map,
     at: u16,
@@ -171,7 +171,7 @@ pub(crate) fn put_last(
 }
 
 // A word is stored at an address, and P goes on elsewhere.
-pub fn put(
+pub(crate) fn put(
     value: u16,
     map: Map,
     at: u16,
@@ -186,7 +186,7 @@ pub fn put(
 }
 
 // ISZ: read, then stored plus one; a skip where that is 0.
-pub fn step_and_skip(
+pub(crate) fn step_and_skip(
     at: u16,
     words: u16,
     r: Registers,
@@ -206,7 +206,13 @@ pub fn step_and_skip(
 }
 
 // DLD: both words are read before A or B changes.
-pub fn load_double(at: u16, words: u16, r: Registers, pages: &[u16], memory: &[u16]) -> Stepped
+pub(crate) fn load_double(
+    at: u16,
+    words: u16,
+    r: Registers,
+    pages: &[u16],
+    memory: &[u16],
+) -> Stepped
     ensures { λ s. ⌜ Performs (now (pages .entry)) (wayAct Way.LoadDouble r at words) r (now (memory .entry)) s (now (memory .entry)) ⌝ }
 {
     match get_word(Map::Execute, at, r, pages, memory) {
@@ -283,7 +289,13 @@ fn store_at(place: Place, value: u16, s: Registers, memory: &mut [u16]) -> Regis
 }
 
 // DST: the values at the start, both places tested before either store.
-pub fn store_double(at: u16, words: u16, r: Registers, pages: &[u16], memory: &mut [u16]) -> Stepped
+pub(crate) fn store_double(
+    at: u16,
+    words: u16,
+    r: Registers,
+    pages: &[u16],
+    memory: &mut [u16],
+) -> Stepped
     ensures { λ s. ⌜ Performs (now (pages .entry)) (wayAct Way.StoreDouble r at words) r (now (memory .entry)) s (now (memory .exit)) ⌝ }
 {
     let length = memory.len();
@@ -300,7 +312,7 @@ pub fn store_double(at: u16, words: u16, r: Registers, pages: &[u16], memory: &m
     }
 }
 
-pub fn value_of(source: Source, r: Registers) -> u16
+pub(crate) fn value_of(source: Source, r: Registers) -> u16
     ensures { λ v. ⌜ v ≡ stored source r ⌝ }
 {
     match source {
@@ -310,7 +322,7 @@ pub fn value_of(source: Source, r: Registers) -> u16
 }
 
 // What is done at an address, by an instruction of so many words.
-pub fn at_address(
+pub(crate) fn at_address(
     way: Way,
     at: u16,
     words: u16,

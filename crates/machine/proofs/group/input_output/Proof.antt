@@ -27,12 +27,12 @@ returns-2 : tie.Need-returns-2
 unfolding exec ioAct
 returns-2 c = rw (← c .before .before .before .before .high-bit .ensures, ← c .before .before .before .is-halt .ensures, c .before .before .if1 .left, c .before .if2 .taken) (c .panel .ensures)
 
-hand-over-requires : tie.Need-hand-over-requires
-hand-over-requires c κs = search needs
+refuse-requires : tie.Need-refuse-requires
+refuse-requires c κs = search needs
 
 returns-3 : tie.Need-returns-3
 unfolding exec ioAct
-returns-3 c = rw (← c .before .before .before .before .high-bit .ensures, ← c .before .before .before .is-halt .ensures, c .before .before .if1 .left, ne-eqb (c .before .before .before .before .before .args .select) 1 (c .before .if2 .left), c .hand-over .ensures) (λ pages m. record { outcome = refl; memory = refl })
+returns-3 c = rw (← c .before .before .before .before .high-bit .ensures, ← c .before .before .before .is-halt .ensures, c .before .before .if1 .left, ne-eqb (c .before .before .before .before .before .args .select) 1 (c .before .if2 .left), c .refuse .ensures) (λ pages m. record { outcome = refl; memory = refl })
 
 pub input-output-spec : {M : Type 1} → statement M
 input-output-spec =
@@ -44,5 +44,5 @@ input-output-spec =
     returns
     panel-requires
     returns-2
-    hand-over-requires
+    refuse-requires
     returns-3)

@@ -9,8 +9,8 @@ use Rattle.machine.proofs.group.panel.Tie as tie
 enum-told : tie.Need-enum-told
 enum-told c = search needs
 
-hand-over-requires : tie.Need-hand-over-requires
-hand-over-requires c κs = search needs
+refuse-requires : tie.Need-refuse-requires
+refuse-requires c κs = search needs
 
 enum-told-2 : tie.Need-enum-told-2
 enum-told-2 c = search needs
@@ -42,18 +42,18 @@ completed-requires-3 c κs = search needs
 enum-told-5 : tie.Need-enum-told-5
 enum-told-5 c = search needs
 
-hand-over-requires-2 : tie.Need-hand-over-requires-2
-hand-over-requires-2 c κs = search needs
+refuse-requires-2 : tie.Need-refuse-requires-2
+refuse-requires-2 c κs = search needs
 
 enum-told-6 : tie.Need-enum-told-6
 enum-told-6 c = search needs
 
-hand-over-requires-3 : tie.Need-hand-over-requires-3
-hand-over-requires-3 c κs = search needs
+refuse-requires-3 : tie.Need-refuse-requires-3
+refuse-requires-3 c κs = search needs
 
 returns : tie.Need-returns
 unfolding exec panelAct
-returns c = rw (c .before .before .enum-told6 .given .1, c .before .if1 .taken, c .hand-over3 .ensures) (λ pages m. record { outcome = refl; memory = refl })
+returns c = rw (c .before .before .enum-told6 .given .1, c .before .if1 .taken, c .refuse3 .ensures) (λ pages m. record { outcome = refl; memory = refl })
 
 register-of-requires : tie.Need-register-of-requires
 register-of-requires c κs = search needs
@@ -67,12 +67,12 @@ completed-requires-4 c κs = search needs
 enum-told-7 : tie.Need-enum-told-7
 enum-told-7 c = search needs
 
-hand-over-requires-4 : tie.Need-hand-over-requires-4
-hand-over-requires-4 c κs = search needs
+refuse-requires-4 : tie.Need-refuse-requires-4
+refuse-requires-4 c κs = search needs
 
 returns-2 : tie.Need-returns-2
 unfolding exec panelAct
-returns-2 c = rw (c .before .before .enum-told7 .given .1, c .before .if2 .taken, c .hand-over4 .ensures) (λ pages m. record { outcome = refl; memory = refl })
+returns-2 c = rw (c .before .before .enum-told7 .given .1, c .before .if2 .taken, c .refuse4 .ensures) (λ pages m. record { outcome = refl; memory = refl })
 
 register-of-requires-2 : tie.Need-register-of-requires-2
 register-of-requires-2 c κs = search needs
@@ -86,12 +86,12 @@ completed-requires-5 c κs = search needs
 enum-told-8 : tie.Need-enum-told-8
 enum-told-8 c = search needs
 
-hand-over-requires-5 : tie.Need-hand-over-requires-5
-hand-over-requires-5 c κs = search needs
+refuse-requires-5 : tie.Need-refuse-requires-5
+refuse-requires-5 c κs = search needs
 
 returns-3 : tie.Need-returns-3
 unfolding exec panelAct
-returns-3 c = rw (c .before .enum-told .given .1, c .hand-over .ensures) (λ pages m. record { outcome = refl; memory = refl })
+returns-3 c = rw (c .before .enum-told .given .1, c .refuse .ensures) (λ pages m. record { outcome = refl; memory = refl })
 
 returns-4 : tie.Need-returns-4
 unfolding exec panelAct
@@ -107,7 +107,7 @@ returns-6 c = rw (c .before .before .enum-told4 .given .1, c .completed3 .ensure
 
 returns-7 : tie.Need-returns-7
 unfolding exec panelAct
-returns-7 c = rw (c .before .enum-told5 .given .1, c .hand-over2 .ensures) (λ pages m. record { outcome = refl; memory = refl })
+returns-7 c = rw (c .before .enum-told5 .given .1, c .refuse2 .ensures) (λ pages m. record { outcome = refl; memory = refl })
 
 returns-8 : tie.Need-returns-8
 unfolding exec panelAct
@@ -119,14 +119,14 @@ returns-9 c = rw (c .before .before .before .before .enum-told7 .given .1, c .be
 
 returns-10 : tie.Need-returns-10
 unfolding exec panelAct
-returns-10 c = rw (c .before .enum-told8 .given .1, c .hand-over5 .ensures) (λ pages m. record { outcome = refl; memory = refl })
+returns-10 c = rw (c .before .enum-told8 .given .1, c .refuse5 .ensures) (λ pages m. record { outcome = refl; memory = refl })
 
 pub panel-spec : {M : Type 1} → statement M
 panel-spec =
     tie.close
     (tie.spec
     enum-told
-    hand-over-requires
+    refuse-requires
     enum-told-2
     set-overflow-requires
     completed-requires
@@ -137,21 +137,21 @@ panel-spec =
     test-overflow-requires-2
     completed-requires-3
     enum-told-5
-    hand-over-requires-2
+    refuse-requires-2
     enum-told-6
-    hand-over-requires-3
+    refuse-requires-3
     returns
     register-of-requires
     take-switches-requires
     completed-requires-4
     enum-told-7
-    hand-over-requires-4
+    refuse-requires-4
     returns-2
     register-of-requires-2
     put-lights-requires
     completed-requires-5
     enum-told-8
-    hand-over-requires-5
+    refuse-requires-5
     returns-3
     returns-4
     returns-5
