@@ -90,7 +90,7 @@ uint32_t a400_run(uint16_t *record, size_t record_len,
  *   3 I/O               1 operation (0 to 7)  2 bit 11  3 bit 9
  *                       4 select code (0 to 63)
  *   4 long shift        1 kind (0 to 5)  2 places (1 to 16)
- *   5 exact code        1 number (0 to 54)
+ *   5 exact code        1 the code's word
  *   6 not built         1 the word
  *
  * A flag is 0 or 1.
@@ -101,14 +101,17 @@ uint32_t a400_run(uint16_t *record, size_t record_len,
  *   I/O operations, from 0: HLT, STF (CLF with bit 9), SFC, SFS, MIA, LIA, OTA,
  *       STC (CLC with bit 11)
  *   long shifts, from 0: ASL LSL RRL ASR LSR RRR
- *   exact codes:
- *        0 XLA1  1 XLA2  2 XLB1  3 XLB2  4 XSA1  5 XSA2  6 XSB1  7 XSB2
- *        8 XCA1  9 XCA2 10 XCB1 11 XCB2 12 SAX  13 SAY  14 SBX  15 SBY
- *       16 CAX  17 CAY  18 CBX  19 CBY  20 LAX  21 LAY  22 LBX  23 LBY
- *       24 CXA  25 CYA  26 CXB  27 CYB  28 XAX  29 XAY  30 XBX  31 XBY
- *       32 STX  33 STY  34 LDX  35 LDY  36 ADX  37 ADY  38 ISX  39 ISY
- *       40 DSX  41 DSY  42 MPY  43 DIV  44 DLD  45 DST  46 LBT  47 SBT
- *       48 MBT  49 CBT  50 SBS  51 CBS  52 TBS  53 CMW  54 MVW
+ *   exact codes, by their words in octal:
+ *     100200 MPY  100400 DIV  101721 XLA2 101722 XSA2 101723 XCA2 101724 XLA1
+ *     101725 XSA1 101726 XCA1 101740 SAX  101741 CAX  101742 LAX  101744 CXA
+ *     101747 XAX  101750 SAY  101751 CAY  101752 LAY  101754 CYA  101757 XAY
+ *     104200 DLD  104400 DST  105721 XLB2 105722 XSB2 105723 XCB2 105724 XLB1
+ *     105725 XSB1 105726 XCB1 105740 SBX  105741 CBX  105742 LBX  105743 STX
+ *     105744 CXB  105745 LDX  105746 ADX  105747 XBX  105750 SBY  105751 CBY
+ *     105752 LBY  105753 STY  105754 CYB  105755 LDY  105756 ADY  105757 XBY
+ *     105760 ISX  105761 DSX  105763 LBT  105764 SBT  105765 MBT  105766 CBT
+ *     105770 ISY  105771 DSY  105773 SBS  105774 CBS  105775 TBS  105776 CMW
+ *     105777 MVW
  */
 
 /*

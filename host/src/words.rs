@@ -29,63 +29,63 @@ const SHIFTS: [[&str; 8]; 2] = [
 
 const LONG_SHIFTS: [&str; 6] = ["ASL", "LSL", "RRL", "ASR", "LSR", "RRR"];
 
-// By the reader's number, each with its length in words.
-const EXACT_CODES: [(&str, u16); 55] = [
-    ("XLA1", 2),
-    ("XLA2", 2),
-    ("XLB1", 2),
-    ("XLB2", 2),
-    ("XSA1", 2),
-    ("XSA2", 2),
-    ("XSB1", 2),
-    ("XSB2", 2),
-    ("XCA1", 2),
-    ("XCA2", 2),
-    ("XCB1", 2),
-    ("XCB2", 2),
-    ("SAX", 2),
-    ("SAY", 2),
-    ("SBX", 2),
-    ("SBY", 2),
-    ("CAX", 1),
-    ("CAY", 1),
-    ("CBX", 1),
-    ("CBY", 1),
-    ("LAX", 2),
-    ("LAY", 2),
-    ("LBX", 2),
-    ("LBY", 2),
-    ("CXA", 1),
-    ("CYA", 1),
-    ("CXB", 1),
-    ("CYB", 1),
-    ("XAX", 1),
-    ("XAY", 1),
-    ("XBX", 1),
-    ("XBY", 1),
-    ("STX", 2),
-    ("STY", 2),
-    ("LDX", 2),
-    ("LDY", 2),
-    ("ADX", 2),
-    ("ADY", 2),
-    ("ISX", 1),
-    ("ISY", 1),
-    ("DSX", 1),
-    ("DSY", 1),
-    ("MPY", 2),
-    ("DIV", 2),
-    ("DLD", 2),
-    ("DST", 2),
-    ("LBT", 1),
-    ("SBT", 1),
-    ("MBT", 3),
-    ("CBT", 3),
-    ("SBS", 3),
-    ("CBS", 3),
-    ("TBS", 3),
-    ("CMW", 3),
-    ("MVW", 3),
+// By rising word, each with its name and its length in words.
+const EXACT_CODES: [(u16, &str, u16); 55] = [
+    (0o100200, "MPY", 2),
+    (0o100400, "DIV", 2),
+    (0o101721, "XLA2", 2),
+    (0o101722, "XSA2", 2),
+    (0o101723, "XCA2", 2),
+    (0o101724, "XLA1", 2),
+    (0o101725, "XSA1", 2),
+    (0o101726, "XCA1", 2),
+    (0o101740, "SAX", 2),
+    (0o101741, "CAX", 1),
+    (0o101742, "LAX", 2),
+    (0o101744, "CXA", 1),
+    (0o101747, "XAX", 1),
+    (0o101750, "SAY", 2),
+    (0o101751, "CAY", 1),
+    (0o101752, "LAY", 2),
+    (0o101754, "CYA", 1),
+    (0o101757, "XAY", 1),
+    (0o104200, "DLD", 2),
+    (0o104400, "DST", 2),
+    (0o105721, "XLB2", 2),
+    (0o105722, "XSB2", 2),
+    (0o105723, "XCB2", 2),
+    (0o105724, "XLB1", 2),
+    (0o105725, "XSB1", 2),
+    (0o105726, "XCB1", 2),
+    (0o105740, "SBX", 2),
+    (0o105741, "CBX", 1),
+    (0o105742, "LBX", 2),
+    (0o105743, "STX", 2),
+    (0o105744, "CXB", 1),
+    (0o105745, "LDX", 2),
+    (0o105746, "ADX", 2),
+    (0o105747, "XBX", 1),
+    (0o105750, "SBY", 2),
+    (0o105751, "CBY", 1),
+    (0o105752, "LBY", 2),
+    (0o105753, "STY", 2),
+    (0o105754, "CYB", 1),
+    (0o105755, "LDY", 2),
+    (0o105756, "ADY", 2),
+    (0o105757, "XBY", 1),
+    (0o105760, "ISX", 1),
+    (0o105761, "DSX", 1),
+    (0o105763, "LBT", 1),
+    (0o105764, "SBT", 1),
+    (0o105765, "MBT", 3),
+    (0o105766, "CBT", 3),
+    (0o105770, "ISY", 1),
+    (0o105771, "DSY", 1),
+    (0o105773, "SBS", 3),
+    (0o105774, "CBS", 3),
+    (0o105775, "TBS", 3),
+    (0o105776, "CMW", 3),
+    (0o105777, "MVW", 3),
 ];
 
 /// The fields of a word.
@@ -100,7 +100,7 @@ pub fn fields(word: u16) -> Fields {
 pub fn length(word: u16) -> u16 {
     let fields = fields(word);
     if fields[0] == EXACT {
-        EXACT_CODES[usize::from(fields[1])].1
+        exact(fields[1]).1
     } else {
         1
     }
@@ -115,7 +115,7 @@ pub fn text(word: u16, address: u16) -> String {
         ALTER_SKIP => alter_skip(&fields),
         INPUT_OUTPUT => input_output(&fields),
         LONG_SHIFT => format!("{} {}", LONG_SHIFTS[usize::from(fields[1])], fields[2]),
-        EXACT => EXACT_CODES[usize::from(fields[1])].0.to_string(),
+        EXACT => exact(fields[1]).0.to_string(),
         _ => "not built".to_string(),
     }
 }
@@ -124,6 +124,12 @@ pub fn text(word: u16, address: u16) -> String {
 pub fn address_text(word: u16) -> String {
     let indirect = if word & 0o100000 != 0 { ",I" } else { "" };
     format!("DEF {:06o}{indirect}", word & 0o77777)
+}
+
+// An exact code's name and length.
+fn exact(code: u16) -> (&'static str, u16) {
+    let row = EXACT_CODES.iter().find(|row| row.0 == code).expect("a code of the table");
+    (row.1, row.2)
 }
 
 fn memory_reference(fields: &Fields, address: u16) -> String {

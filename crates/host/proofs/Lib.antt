@@ -3,14 +3,16 @@
 --     Called      a call put together from what the machine promises
 --     Picks       a choice out of a table, within it and past it
 --     Sameness    when two lists hold the same words
---     Writes      the writer of fields, put together from its parts
+--     Below       the search for the word that reads as fields
 --     Again       reading and writing fields are inverse
+--     Writes      the writer of fields, put together from its parts
 --     Tight       each promise fixes its outcome
 -- Assumes nothing.
 pub mod Records
 pub mod Called
 pub mod Picks
 pub mod Sameness
-pub mod Writes
+pub mod Below
 pub mod Again
+pub mod Writes
 pub mod Tight

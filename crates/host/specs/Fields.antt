@@ -1,43 +1,26 @@
 -- An instruction as ten flat fields, and the calls that read and write one.
---     operationNumber, longKind, longAt, exactCodes, exactAt    choices and their numbers that the machine's Instructions has not
---     fieldsOf          the fields of an instruction; fields that its class does not use are 0
---     instructionAt     an instruction from ten fields, whatever they are
---     writingFields     the word that reads as these fields, or none
---     readCall, writeCall    the two calls
--- `instructionAt` takes a field that is out of range for some choice; that `fieldsOf` gives the same fields back shows that none was.
--- That the two calls are inverse is in proofs/Again.antt.
+--     operationNumber, longKind    choices and their numbers that `code`'s Instructions has not
+--     fieldsOf                     the fields of an instruction: its class, then those of the class; fields that it does not use are 0
+--     sameWords                    whether two lists hold the same words
+--     wordBelow, writingFields     the word that reads as these fields, or none
+--     readCall, writeCall          the two calls
+-- What a word reads as is `reading`, of `code`. That no two words read as the same fields is in proofs/Again.antt.
 -- Assumes nothing.
-use Prim.Native.Nat.{ℕ}
+use Prim.Native.Nat.{ℕ, zero, suc}
 use mathlib.Core.Bool.{Bool, true, false, cond, _&&_}
 use mathlib.Core.List.{List, [], _∷_}
 use lib.Dec.{eqb}
-use lib.ListN.{length, getD}
+use lib.ListN.{length}
 use Rattle.word.specs.Words.{weight}
 use Rattle.word.specs.declared.long.LongShift.{LongShift}
 use Rattle.word.specs.declared.long.LongShift.the-variants.{Asl, Lsl, Rrl, Asr, Lsr, Rrr}
-use Rattle.code.specs.declared.codes.Register.the-variants.{A, B}
-use Rattle.code.specs.declared.codes.Index.the-variants.{X, Y}
-use Rattle.code.specs.declared.codes.Data.the-variants.{One, Two}
-use Rattle.code.specs.declared.codes.Cross.the-variants.{Xl, Xs, Xc}
-use Rattle.code.specs.declared.codes.Transfer.the-variants.{Sax, Cax, Lax, Cxa, Xax}
-use Rattle.code.specs.declared.codes.Indexing.the-variants.{Stx, Ldx, Adx, Isx, Dsx}
-use Rattle.code.specs.declared.codes.Arithmetic.the-variants.{Mpy, Div, Dld, Dst}
-use Rattle.code.specs.declared.codes.Bytes.the-variants.{Lbt, Sbt, Mbt, Cbt}
-use Rattle.code.specs.declared.codes.Bits.the-variants.{Sbs, Cbs, Tbs}
-use Rattle.code.specs.declared.codes.Words.the-variants.{Cmw, Mvw}
-use Rattle.code.specs.declared.codes.Extended as of-extended
-use Rattle.code.specs.declared.codes.Extended.the-variants.{Cross, Transfer, Indexing, Arithmetic, Bytes, Bits, Words}
 use Rattle.code.specs.declared.instructions.Operation.{Operation}
 use Rattle.code.specs.declared.instructions.Operation.the-variants.{And, Jsb, Xor, Jmp, Ior, Isz, Ada, Adb, Cpa, Cpb, Lda, Ldb, Sta, Stb}
-use Rattle.code.specs.declared.instructions.ShiftRotate as of-shift-rotate
-use Rattle.code.specs.declared.instructions.AlterSkip as of-alter-skip
 use Rattle.code.specs.declared.instructions.Instruction.{Instruction}
 use Rattle.code.specs.declared.instructions.Instruction.the-variants.{MemoryReference, ShiftRotate, AlterSkip, InputOutput, LongShift as Shift, Extended, NotBuilt}
 use Rattle.code.specs.declared.instructions.Written.{Written}
 use Rattle.code.specs.declared.instructions.Written.the-variants.{Word, NoWord}
-use Rattle.code.specs.Kinds.{extendedNumber}
-use Rattle.code.specs.Instructions.{operationAt, registerFlag, registerAt, shiftNumber, shiftAt, alterNumber, alterAt, ioNumber, ioAt}
-use Rattle.code.specs.Instructions.{reading, writing}
+use Rattle.code.specs.Instructions.{registerFlag, shiftNumber, alterNumber, ioNumber, reading, writing, wordOf}
 use Rattle.host.specs.Calls.{Answered, answered}
 
 -- bits 14 to 11
@@ -65,34 +48,7 @@ longKind Asr = 3
 longKind Lsr = 4
 longKind Rrr = 5
 
-abbrev pub longAt : ℕ → LongShift
-longAt n = getD (Asl ∷ Lsl ∷ Rrl ∷ Asr ∷ Lsr ∷ Rrr ∷ []) n Rrr
-
--- the exact codes by the machine's numbers, 0 to 54
-unfoldable pub exactCodes : List of-extended.Extended
-exactCodes =
-    Cross Xl A One ∷ Cross Xl A Two ∷ Cross Xl B One ∷ Cross Xl B Two
-    ∷ Cross Xs A One ∷ Cross Xs A Two ∷ Cross Xs B One ∷ Cross Xs B Two
-    ∷ Cross Xc A One ∷ Cross Xc A Two ∷ Cross Xc B One ∷ Cross Xc B Two
-    ∷ Transfer Sax A X ∷ Transfer Sax A Y ∷ Transfer Sax B X ∷ Transfer Sax B Y
-    ∷ Transfer Cax A X ∷ Transfer Cax A Y ∷ Transfer Cax B X ∷ Transfer Cax B Y
-    ∷ Transfer Lax A X ∷ Transfer Lax A Y ∷ Transfer Lax B X ∷ Transfer Lax B Y
-    ∷ Transfer Cxa A X ∷ Transfer Cxa A Y ∷ Transfer Cxa B X ∷ Transfer Cxa B Y
-    ∷ Transfer Xax A X ∷ Transfer Xax A Y ∷ Transfer Xax B X ∷ Transfer Xax B Y
-    ∷ Indexing Stx X ∷ Indexing Stx Y
-    ∷ Indexing Ldx X ∷ Indexing Ldx Y
-    ∷ Indexing Adx X ∷ Indexing Adx Y
-    ∷ Indexing Isx X ∷ Indexing Isx Y
-    ∷ Indexing Dsx X ∷ Indexing Dsx Y
-    ∷ Arithmetic Mpy ∷ Arithmetic Div ∷ Arithmetic Dld ∷ Arithmetic Dst
-    ∷ Bytes Lbt ∷ Bytes Sbt ∷ Bytes Mbt ∷ Bytes Cbt
-    ∷ Bits Sbs ∷ Bits Cbs ∷ Bits Tbs
-    ∷ Words Cmw ∷ Words Mvw
-    ∷ []
-
-abbrev pub exactAt : ℕ → of-extended.Extended
-exactAt n = getD exactCodes n (Words Mvw)
-
+-- an exact code goes by the word that reads as it
 abbrev pub fieldsOf : Instruction → List ℕ
 fieldsOf (MemoryReference o indirect current offset) =
     0 ∷ operationNumber o ∷ weight indirect ∷ weight current ∷ offset ∷ 0 ∷ 0 ∷ 0 ∷ 0 ∷ 0 ∷ []
@@ -105,50 +61,8 @@ fieldsOf (AlterSkip s) =
 fieldsOf (InputOutput o bit11 bit9 select) =
     3 ∷ ioNumber o ∷ weight bit11 ∷ weight bit9 ∷ select ∷ 0 ∷ 0 ∷ 0 ∷ 0 ∷ 0 ∷ []
 fieldsOf (Shift s places) = 4 ∷ longKind s ∷ places ∷ 0 ∷ 0 ∷ 0 ∷ 0 ∷ 0 ∷ 0 ∷ 0 ∷ []
-fieldsOf (Extended e) = 5 ∷ extendedNumber e ∷ 0 ∷ 0 ∷ 0 ∷ 0 ∷ 0 ∷ 0 ∷ 0 ∷ 0 ∷ []
+fieldsOf (Extended e) = 5 ∷ wordOf (writing (Extended e)) ∷ 0 ∷ 0 ∷ 0 ∷ 0 ∷ 0 ∷ 0 ∷ 0 ∷ 0 ∷ []
 fieldsOf (NotBuilt w) = 6 ∷ w ∷ 0 ∷ 0 ∷ 0 ∷ 0 ∷ 0 ∷ 0 ∷ 0 ∷ 0 ∷ []
-
-abbrev pub field : List ℕ → ℕ → ℕ
-field f n = getD f n 0
-
-abbrev pub isSet : List ℕ → ℕ → Bool
-isSet f n = eqb (field f n) 1
-
-abbrev pub shiftRotateAt : List ℕ → of-shift-rotate.ShiftRotate
-shiftRotateAt f =
-    record {
-      register = registerAt (field f 1);
-      enabled1 = isSet f 2;
-      shift1 = shiftAt (field f 3);
-      cle = isSet f 4;
-      sla = isSet f 5;
-      enabled2 = isSet f 6;
-      shift2 = shiftAt (field f 7);
-    }
-
-abbrev pub alterSkipAt : List ℕ → of-alter-skip.AlterSkip
-alterSkipAt f =
-    record {
-      register = registerAt (field f 1);
-      alter = alterAt (field f 2);
-      sez = isSet f 3;
-      extend = alterAt (field f 4);
-      ssa = isSet f 5;
-      sla = isSet f 6;
-      ina = isSet f 7;
-      sza = isSet f 8;
-      rss = isSet f 9;
-    }
-
-unfoldable pub instructionAt : List ℕ → Instruction
-instructionAt f =
-    let class : ℕ = field f 0 in
-    cond (eqb class 0) (MemoryReference (operationAt (field f 1)) (isSet f 2) (isSet f 3) (field f 4))
-    (cond (eqb class 1) (ShiftRotate (shiftRotateAt f))
-    (cond (eqb class 2) (AlterSkip (alterSkipAt f))
-    (cond (eqb class 3) (InputOutput (ioAt (field f 1)) (isSet f 2) (isSet f 3) (field f 4))
-    (cond (eqb class 4) (Shift (longAt (field f 1)) (field f 2))
-    (cond (eqb class 5) (Extended (exactAt (field f 1))) (NotBuilt (field f 1)))))))
 
 unfoldable pub sameWords : List ℕ → List ℕ → Bool
 sameWords [] [] = true
@@ -156,8 +70,13 @@ sameWords [] (y ∷ ys) = false
 sameWords (x ∷ xs) [] = false
 sameWords (x ∷ xs) (y ∷ ys) = eqb x y && sameWords xs ys
 
+-- the word below n that reads as these fields, or none
+unfoldable pub wordBelow : ℕ → List ℕ → Written
+wordBelow zero f = NoWord
+wordBelow (suc n) f = cond (sameWords f (fieldsOf (reading n))) (Word n) (wordBelow n f)
+
 unfoldable pub writingFields : List ℕ → Written
-writingFields f = cond (sameWords f (fieldsOf (instructionAt f))) (writing (instructionAt f)) NoWord
+writingFields f = wordBelow 0o200000 f
 
 unfoldable pub readCall : ℕ → List ℕ → Answered
 readCall w f = cond (eqb (length f) 10) (answered 0 (fieldsOf (reading w))) (answered 8 f)

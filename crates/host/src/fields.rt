@@ -11,10 +11,9 @@ use crate::choices::register_at;
 use crate::choices::register_number;
 use crate::choices::shift_at;
 use crate::choices::shift_number;
-use crate::exact::exact_at;
-use crate::exact::exact_number;
 use crate::words::copy_words;
 use crate::words::same_words;
+use code::codes::Extended;
 use code::instructions::AlterSkip;
 use code::instructions::Instruction;
 use code::instructions::ShiftRotate;
@@ -24,8 +23,10 @@ use code::instructions::write_instruction;
 use word::bits::weight_of;
 ghost use mathlib.Core.Path.{_≡_};
 ghost use lib.ListN.{length};
+ghost use Rattle.code.specs.Instructions.{writing, wordOf};
 ghost use Rattle.host.specs.Calls.{Answers};
-ghost use Rattle.host.specs.Fields.{fieldsOf, shiftRotateAt, alterSkipAt, instructionAt, writingFields, readCall, writeCall};
+ghost use Rattle.host.specs.Fields.{fieldsOf, writingFields, readCall, writeCall};
+ghost use Rattle.host.specs.Unchecked.{shiftRotateAt, alterSkipAt, instructionAt};
 
 fn shift_rotate_fields(s: ShiftRotate) -> [u16; 10]
     ensures { λ f. ⌜ f ≡ fieldsOf (Instruction.ShiftRotate s) ⌝ }
@@ -65,6 +66,15 @@ fn alter_skip_fields(s: AlterSkip) -> [u16; 10]
         weight_of(s.sza),
         weight_of(s.rss),
     ]
+}
+
+fn code_word(code: Extended) -> u16
+    ensures { λ w. ⌜ w ≡ wordOf (writing (Instruction.Extended code)) ⌝ }
+{
+    match write_instruction(Instruction::Extended(code)) {
+        Written::Word(w) => w,
+        Written::NoWord => 0,
+    }
 }
 
 fn fields_of(i: Instruction) -> [u16; 10]
@@ -110,7 +120,7 @@ fn fields_of(i: Instruction) -> [u16; 10]
         Instruction::LongShift { kind, places } => {
             [4, long_number(kind), places, 0, 0, 0, 0, 0, 0, 0]
         }
-        Instruction::Extended(code) => [5, exact_number(code), 0, 0, 0, 0, 0, 0, 0, 0],
+        Instruction::Extended(code) => [5, code_word(code), 0, 0, 0, 0, 0, 0, 0, 0],
         Instruction::NotBuilt(word) => [6, word, 0, 0, 0, 0, 0, 0, 0, 0],
     }
 }
@@ -187,13 +197,10 @@ fn instruction_at(fields: &[u16]) -> Instruction
             places: fields[2],
         };
     }
-    if class == 5 {
-        return Instruction::Extended(exact_at(first));
-    }
-    Instruction::NotBuilt(first)
+    read_instruction(first)
 }
 
-// The word that reads as these fields: a field that is out of range, or not used and not 0, is not read again.
+// An instruction is taken from the fields whatever they are. Where it has other fields, no word reads as these.
 fn write_fields(fields: &[u16]) -> Written
     requires { ⌜ length (now fields) ≡ 10 ⌝ }
     ensures { λ w. ⌜ w ≡ writingFields (now (fields .entry)) ⌝ }

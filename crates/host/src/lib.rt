@@ -1,6 +1,5 @@
 pub mod calls;
 mod choices;
-mod exact;
 pub mod fields;
 pub mod record;
 mod words;

@@ -48,8 +48,8 @@ long-number-requires c κs = search needs
 enum-known-i-6 : tie.Need-enum-known-i-6
 enum-known-i-6 c = search needs
 
-exact-number-requires : tie.Need-exact-number-requires
-exact-number-requires c κs = search needs
+code-word-requires : tie.Need-code-word-requires
+code-word-requires c κs = search needs
 
 enum-known-i-7 : tie.Need-enum-known-i-7
 enum-known-i-7 c = search needs
@@ -70,7 +70,7 @@ returns-5 : tie.Need-returns-5
 returns-5 c = rw (c .before .before .i5 .given .1, c .long-number .ensures)
 
 returns-6 : tie.Need-returns-6
-returns-6 c = rw (c .before .before .i6 .given .1, c .exact-number .ensures)
+returns-6 c = rw (c .before .before .i6 .given .1, c .code-word .ensures)
 
 returns-7 : tie.Need-returns-7
 returns-7 c = rw (c .before .i7 .given .1)
@@ -94,7 +94,7 @@ fields-of-spec =
     enum-known-i-5
     long-number-requires
     enum-known-i-6
-    exact-number-requires
+    code-word-requires
     enum-known-i-7
     returns
     returns-2

@@ -1,6 +1,6 @@
 -- `host::fields::instruction_at` meets its contract: each return is the case of its class. Assumes nothing.
 use borrow.Author.Tests.{eq-eqb, ne-eqb}
-use Rattle.host.specs.Fields.{instructionAt}
+use Rattle.host.specs.Unchecked.{instructionAt}
 use borrow.Author.Needs.{needs}
 use Rattle.host.proofs.fields.instruction_at.Statement.{statement}
 use Rattle.host.proofs.fields.instruction_at.Tie as tie
@@ -67,16 +67,12 @@ returns-5 : tie.Need-returns-5
 unfolding instructionAt
 returns-5 c = rw (ne-eqb _ _ (c .before .before .before .before .before .before .if1 .left), ne-eqb _ _ (c .before .before .before .before .before .if2 .left), ne-eqb _ _ (c .before .before .before .before .if3 .left), ne-eqb _ _ (c .before .before .before .if4 .left), eq-eqb _ _ (c .before .before .if5 .taken), c .before .long-at .ensures, instructionAt)
 
-exact-at-requires : tie.Need-exact-at-requires
-exact-at-requires c κs = search needs
+read-instruction-requires : tie.Need-read-instruction-requires
+read-instruction-requires c κs = search needs
 
 returns-6 : tie.Need-returns-6
 unfolding instructionAt
-returns-6 c = rw (ne-eqb _ _ (c .before .before .before .before .before .before .if1 .left), ne-eqb _ _ (c .before .before .before .before .before .if2 .left), ne-eqb _ _ (c .before .before .before .before .if3 .left), ne-eqb _ _ (c .before .before .before .if4 .left), ne-eqb _ _ (c .before .before .if5 .left), eq-eqb _ _ (c .before .if6 .taken), c .exact-at .ensures, instructionAt)
-
-returns-7 : tie.Need-returns-7
-unfolding instructionAt
-returns-7 c = rw (ne-eqb _ _ (c .before .before .before .before .before .if1 .left), ne-eqb _ _ (c .before .before .before .before .if2 .left), ne-eqb _ _ (c .before .before .before .if3 .left), ne-eqb _ _ (c .before .before .if4 .left), ne-eqb _ _ (c .before .if5 .left), ne-eqb _ _ (c .if6 .left), instructionAt)
+returns-6 c = rw (ne-eqb _ _ (c .before .before .before .before .before .if1 .left), ne-eqb _ _ (c .before .before .before .before .if2 .left), ne-eqb _ _ (c .before .before .before .if3 .left), ne-eqb _ _ (c .before .before .if4 .left), ne-eqb _ _ (c .before .if5 .left), c .read-instruction .ensures, instructionAt)
 
 pub instruction-at-spec : {M : Type 1} → statement M
 instruction-at-spec =
@@ -101,6 +97,5 @@ instruction-at-spec =
     long-at-requires
     shared-slice-read-t30
     returns-5
-    exact-at-requires
-    returns-6
-    returns-7)
+    read-instruction-requires
+    returns-6)
