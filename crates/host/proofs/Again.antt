@@ -1,5 +1,5 @@
 -- Reading and writing fields are inverse: the theorems.
---     operation-back, long-back, flag-back    the choice of a choice's number
+--     long-back, flag-back  the choice of a choice's number
 --     instruction-back      an instruction that has a word is taken again from its fields
 --     read-back             so what a word reads as is
 --     one-word              and no two words read as the same fields
@@ -18,35 +18,17 @@ use Rattle.word.specs.Words.{weight}
 use Rattle.word.specs.declared.long.LongShift.{LongShift}
 use Rattle.word.specs.declared.long.LongShift.the-variants.{Asl, Lsl, Rrl, Asr, Lsr, Rrr}
 use Rattle.code.specs.declared.codes.Extended as of-extended
-use Rattle.code.specs.declared.instructions.Operation.{Operation}
-use Rattle.code.specs.declared.instructions.Operation.the-variants.{And, Jsb, Xor, Jmp, Ior, Isz, Ada, Adb, Cpa, Cpb, Lda, Ldb, Sta, Stb}
 use Rattle.code.specs.declared.instructions.Instruction.{Instruction}
 use Rattle.code.specs.declared.instructions.Instruction.the-variants.{MemoryReference, ShiftRotate, AlterSkip, InputOutput, LongShift as Shift, Extended, NotBuilt}
 use Rattle.code.specs.declared.instructions.Written.{Written}
 use Rattle.code.specs.declared.instructions.Written.the-variants.{Word, NoWord}
-use Rattle.code.specs.Instructions.{operationAt, reading, writing, built, wordOf}
-use Rattle.code.proofs.Choices.{register-back, shift-back, alter-back, io-back}
+use Rattle.code.specs.Instructions.{reading, writing, built, wordOf}
+use Rattle.code.proofs.Choices.{operation-back, register-back, shift-back, alter-back, io-back}
 use Rattle.code.proofs.Rows.{unbuilt}
 use Rattle.code.proofs.Exact as exact
-use Rattle.host.specs.Fields.{operationNumber, longKind, fieldsOf, writingFields}
+use Rattle.host.specs.Fields.{longKind, fieldsOf, writingFields}
 use Rattle.host.specs.Unchecked.{longAt, instructionAt}
 use Rattle.host.proofs.Below.{below-reads, below-none}
-
-operation-back : (o : Operation) → operationAt (operationNumber o) ≡ o
-operation-back And = refl
-operation-back Jsb = refl
-operation-back Xor = refl
-operation-back Jmp = refl
-operation-back Ior = refl
-operation-back Isz = refl
-operation-back Ada = refl
-operation-back Adb = refl
-operation-back Cpa = refl
-operation-back Cpb = refl
-operation-back Lda = refl
-operation-back Ldb = refl
-operation-back Sta = refl
-operation-back Stb = refl
 
 long-back : (s : LongShift) → longAt (longKind s) ≡ s
 long-back Asl = refl

@@ -3,8 +3,9 @@
 --     past-at       past a table there is the default
 --     register-past any number but 0 picks B
 --     operations, shifts, alters, ios, longs    the tables of src/choices.rt, as lists
+--     operation-bits    the number of an operation is bits 14 to 11 of its code
 -- Assumes nothing.
-use Prim.Native.Nat.{ℕ, zero, suc, _≤_, _<_}
+use Prim.Native.Nat.{ℕ, zero, suc, _/_, _≤_, _<_}
 use native.Mathlib.Nat.{le-of-suc-le-suc, not-suc-le-zero}
 use mathlib.Core.Path.{_≡_, refl, sym}
 use mathlib.Core.List.{List, [], _∷_}
@@ -20,7 +21,8 @@ use Rattle.code.specs.declared.instructions.Alter.{Alter}
 use Rattle.code.specs.declared.instructions.Alter.the-variants.{Keep, Clear, Complement, Ones}
 use Rattle.code.specs.declared.instructions.IoOperation.{IoOperation}
 use Rattle.code.specs.declared.instructions.IoOperation.the-variants.{Hlt, Flag, Sfc, Sfs, Mia, Lia, Ota, Control}
-use Rattle.code.specs.Instructions.{registerAt}
+use Rattle.code.specs.Instructions.{operationCode, registerAt}
+use Rattle.host.specs.Unchecked.{operationNumber}
 
 module _ {A : Type 0} where
   pub same-at : (l : List A) (n : ℕ) (d e : A) → n < length l → getD l n d ≡ getD l n e
@@ -50,3 +52,19 @@ ios = Hlt ∷ Flag ∷ Sfc ∷ Sfs ∷ Mia ∷ Lia ∷ Ota ∷ Control ∷ []
 
 abbrev pub longs : List LongShift
 longs = Asl ∷ Lsl ∷ Rrl ∷ Asr ∷ Lsr ∷ Rrr ∷ []
+
+pub operation-bits : (o : Operation) → operationNumber o ≡ operationCode o / 0o4000
+operation-bits And = refl
+operation-bits Jsb = refl
+operation-bits Xor = refl
+operation-bits Jmp = refl
+operation-bits Ior = refl
+operation-bits Isz = refl
+operation-bits Ada = refl
+operation-bits Adb = refl
+operation-bits Cpa = refl
+operation-bits Cpb = refl
+operation-bits Lda = refl
+operation-bits Ldb = refl
+operation-bits Sta = refl
+operation-bits Stb = refl

@@ -1,12 +1,12 @@
 -- An instruction as ten flat fields, and the calls that read and write one.
---     operationNumber, longKind    choices and their numbers that `code`'s Instructions has not
---     fieldsOf                     the fields of an instruction: its class, then those of the class; fields that it does not use are 0
---     sameWords                    whether two lists hold the same words
---     wordBelow, writingFields     the word that reads as these fields, or none
---     readCall, writeCall          the two calls
+--     longKind               the numbers of the long shifts; those of the other choices are in Instructions of `code`
+--     fieldsOf               the fields of an instruction: its class, then those of the class; fields that it does not use are 0
+--     sameWords              whether two lists hold the same words
+--     wordBelow, writingFields    the word that reads as these fields, or none
+--     readCall, writeCall    the two calls
 -- What a word reads as is `reading`, of `code`. That no two words read as the same fields is in proofs/Again.antt.
 -- Assumes nothing.
-use Prim.Native.Nat.{ℕ, zero, suc}
+use Prim.Native.Nat.{ℕ, zero, suc, _/_}
 use mathlib.Core.Bool.{Bool, true, false, cond, _&&_}
 use mathlib.Core.List.{List, [], _∷_}
 use lib.Dec.{eqb}
@@ -14,31 +14,12 @@ use lib.ListN.{length}
 use Rattle.word.specs.Words.{weight}
 use Rattle.word.specs.declared.long.LongShift.{LongShift}
 use Rattle.word.specs.declared.long.LongShift.the-variants.{Asl, Lsl, Rrl, Asr, Lsr, Rrr}
-use Rattle.code.specs.declared.instructions.Operation.{Operation}
-use Rattle.code.specs.declared.instructions.Operation.the-variants.{And, Jsb, Xor, Jmp, Ior, Isz, Ada, Adb, Cpa, Cpb, Lda, Ldb, Sta, Stb}
 use Rattle.code.specs.declared.instructions.Instruction.{Instruction}
 use Rattle.code.specs.declared.instructions.Instruction.the-variants.{MemoryReference, ShiftRotate, AlterSkip, InputOutput, LongShift as Shift, Extended, NotBuilt}
 use Rattle.code.specs.declared.instructions.Written.{Written}
 use Rattle.code.specs.declared.instructions.Written.the-variants.{Word, NoWord}
-use Rattle.code.specs.Instructions.{registerFlag, shiftNumber, alterNumber, ioNumber, reading, writing, wordOf}
+use Rattle.code.specs.Instructions.{operationCode, registerFlag, shiftNumber, alterNumber, ioNumber, reading, writing, wordOf}
 use Rattle.host.specs.Calls.{Answered, answered}
-
--- bits 14 to 11
-abbrev pub operationNumber : Operation → ℕ
-operationNumber And = 2
-operationNumber Jsb = 3
-operationNumber Xor = 4
-operationNumber Jmp = 5
-operationNumber Ior = 6
-operationNumber Isz = 7
-operationNumber Ada = 8
-operationNumber Adb = 9
-operationNumber Cpa = 10
-operationNumber Cpb = 11
-operationNumber Lda = 12
-operationNumber Ldb = 13
-operationNumber Sta = 14
-operationNumber Stb = 15
 
 abbrev pub longKind : LongShift → ℕ
 longKind Asl = 0
@@ -48,10 +29,10 @@ longKind Asr = 3
 longKind Lsr = 4
 longKind Rrr = 5
 
--- an exact code goes by the word that reads as it
+-- an operation goes by bits 14 to 11, an exact code by the word that reads as it
 abbrev pub fieldsOf : Instruction → List ℕ
 fieldsOf (MemoryReference o indirect current offset) =
-    0 ∷ operationNumber o ∷ weight indirect ∷ weight current ∷ offset ∷ 0 ∷ 0 ∷ 0 ∷ 0 ∷ 0 ∷ []
+    0 ∷ operationCode o / 0o4000 ∷ weight indirect ∷ weight current ∷ offset ∷ 0 ∷ 0 ∷ 0 ∷ 0 ∷ 0 ∷ []
 fieldsOf (ShiftRotate s) =
     1 ∷ registerFlag (s .register) ∷ weight (s .enabled1) ∷ shiftNumber (s .shift1) ∷ weight (s .cle) ∷ weight (s .sla)
     ∷ weight (s .enabled2) ∷ shiftNumber (s .shift2) ∷ 0 ∷ 0 ∷ []

@@ -8,8 +8,8 @@ use word::long::LongShift;
 use word::shifts::ShiftCode;
 ghost use mathlib.Core.Path.{_≡_};
 ghost use Rattle.code.specs.Instructions.{operationAt, registerFlag, registerAt, shiftNumber, shiftAt, alterNumber, alterAt, ioNumber, ioAt};
-ghost use Rattle.host.specs.Fields.{operationNumber, longKind};
-ghost use Rattle.host.specs.Unchecked.{longAt};
+ghost use Rattle.host.specs.Fields.{longKind};
+ghost use Rattle.host.specs.Unchecked.{operationNumber, longAt};
 
 const OPERATIONS: [Operation; 14] = [
     Operation::And,

@@ -1,5 +1,6 @@
 -- `host::fields::fields_of` meets its contract. Each arm knows which instruction it has. Assumes nothing.
 use borrow.Author.Needs.{needs}
+use Rattle.host.proofs.Picks.{operation-bits}
 use Rattle.host.proofs.fields.fields_of.Statement.{statement}
 use Rattle.host.proofs.fields.fields_of.Tie as tie
 
@@ -55,7 +56,7 @@ enum-known-i-7 : tie.Need-enum-known-i-7
 enum-known-i-7 c = search needs
 
 returns : tie.Need-returns
-returns c = rw (c .before .before .before .before .i .given .1, c .before .before .operation-number .ensures, c .before .weight-of .ensures, c .weight-of2 .ensures)
+returns c = rw (c .before .before .before .before .i .given .1, c .before .before .operation-number .ensures, operation-bits, c .before .weight-of .ensures, c .weight-of2 .ensures)
 
 returns-2 : tie.Need-returns-2
 returns-2 c = rw (c .before .before .i2 .given .1, c .shift-rotate-fields .ensures)
