@@ -52,6 +52,7 @@ use Rattle.code.specs.declared.instructions.IoOperation.{IoOperation}
 use Rattle.code.specs.declared.instructions.Instruction.{Instruction}
 use Rattle.machine.specs.declared.ways.Taking.{Taking}
 use Rattle.machine.specs.declared.ways.Source.{Source}
+use Rattle.machine.specs.declared.ways.Addressing.{Addressing}
 use Rattle.machine.specs.declared.ways.Way.{Way}
 use Rattle.machine.specs.declared.strings.Element.{Element}
 use Rattle.code.specs.declared.codes.Bits.{Bits}
@@ -149,10 +150,8 @@ keeps-taken (Taking.LoadIndex i) w n s = keeps-index i _ _
 keeps-taken (Taking.AddIndex i) w n s = keeps-index i _ _
 
 keeps-way : (way : Way) (r : Registers) (m n : ℕ) → Keeps (wayAct way r m n)
-keeps-way (Way.Take t map) r m n = loads (λ w. ends (keeps-taken t w n))
-keeps-way (Way.Put s map) r m n = saves (ends (λ s. refl))
-keeps-way (Way.TakeIndexed g i) r m n = loads (λ w. ends (keeps-taken (Taking.Load g) w n))
-keeps-way (Way.PutIndexed g i) r m n = saves (ends (λ s. refl))
+keeps-way (Way.Take t map x) r m n = loads (λ w. ends (keeps-taken t w n))
+keeps-way (Way.Put s map x) r m n = saves (ends (λ s. refl))
 keeps-way Way.LoadDouble r m n = loads (λ v. loads (λ w. ends (λ s. refl)))
 keeps-way Way.StoreDouble r m n = saves (saves (ends (λ s. refl)))
 keeps-way Way.StepAndSkip r m n = loads (λ w. saves (ends (λ s. refl)))
@@ -278,16 +277,16 @@ keeps-operand : (way : Way) (r : Registers) → Keeps (atOperand way r)
 keeps-operand way r = loads (λ w. follows (λ m. keeps-way way r m 2))
 
 keeps-transfer : (x : Transfer) (g : Register) (i : Index) (r : Registers) → Keeps (transferAct x g i r)
-keeps-transfer Transfer.Sax g i r = keeps-operand (Way.PutIndexed g i) r
+keeps-transfer Transfer.Sax g i r = keeps-operand (Way.Put (Source.Register g) Map.Execute (Addressing.Indexed i)) r
 keeps-transfer Transfer.Cax g i r = ends (λ s. keeps-index i s _)
-keeps-transfer Transfer.Lax g i r = keeps-operand (Way.TakeIndexed g i) r
+keeps-transfer Transfer.Lax g i r = keeps-operand (Way.Take (Taking.Load g) Map.Execute (Addressing.Indexed i)) r
 keeps-transfer Transfer.Cxa g i r = ends (λ s. keeps-register g s _)
 keeps-transfer Transfer.Xax g i r = ends (keeps-exchanged g i)
 
 keeps-indexing : (x : Indexing) (i : Index) (r : Registers) → Keeps (indexingAct x i r)
-keeps-indexing Indexing.Stx i r = keeps-operand (Way.Put (Source.Index i) Map.Execute) r
-keeps-indexing Indexing.Ldx i r = keeps-operand (Way.Take (Taking.LoadIndex i) Map.Execute) r
-keeps-indexing Indexing.Adx i r = keeps-operand (Way.Take (Taking.AddIndex i) Map.Execute) r
+keeps-indexing Indexing.Stx i r = keeps-operand (Way.Put (Source.Index i) Map.Execute Addressing.Plain) r
+keeps-indexing Indexing.Ldx i r = keeps-operand (Way.Take (Taking.LoadIndex i) Map.Execute Addressing.Plain) r
+keeps-indexing Indexing.Adx i r = keeps-operand (Way.Take (Taking.AddIndex i) Map.Execute Addressing.Plain) r
 keeps-indexing Indexing.Isx i r = ends (λ s. keeps-index i s _)
 keeps-indexing Indexing.Dsx i r = ends (λ s. keeps-index i s _)
 
@@ -320,10 +319,8 @@ keeps-rule (Instruction.Extended x) r = keeps-extended x r
 keeps-rule (Instruction.NotBuilt w) r = keeps-choice (protecting (r .wmap) && privileged w) _ _ violates stops
 
 keeps-trap-way : (way : Way) (r : Registers) (word : ℕ) → Keeps (trapWay way r word)
-keeps-trap-way (Way.Take t map) r word = stops
-keeps-trap-way (Way.Put s map) r word = stops
-keeps-trap-way (Way.TakeIndexed g i) r word = stops
-keeps-trap-way (Way.PutIndexed g i) r word = stops
+keeps-trap-way (Way.Take t map x) r word = stops
+keeps-trap-way (Way.Put s map x) r word = stops
 keeps-trap-way Way.LoadDouble r word = stops
 keeps-trap-way Way.StoreDouble r word = stops
 keeps-trap-way Way.StepAndSkip r word = stops

@@ -11,6 +11,8 @@ use Rattle.code.proofs.codes.extended_length.Kinds as extended-length
 use Rattle.code.proofs.codes.extended_length.Reads as extended-length-reads
 use Rattle.code.proofs.codes.is_privileged.Kinds as is-privileged
 use Rattle.code.proofs.codes.is_privileged.Reads as is-privileged-reads
+use Rattle.code.proofs.instructions.operation_of.Kinds as operation-of
+use Rattle.code.proofs.instructions.operation_of.Reads as operation-of-reads
 use Rattle.code.proofs.instructions.read_instruction.Kinds as read-instruction
 use Rattle.code.proofs.instructions.read_instruction.Reads as read-instruction-reads
 use Rattle.code.proofs.instructions.write_instruction.Kinds as write-instruction
@@ -27,6 +29,9 @@ extended-length-tight κs a x y s t p q = p ∙ sym q
 
 pub is-privileged-tight : OneResult 0 is-privileged.ps is-privileged.r is-privileged-reads.Post
 is-privileged-tight κs a x y s t p q = p ∙ sym q
+
+pub operation-of-tight : OneResult 0 operation-of.ps operation-of.r operation-of-reads.Post
+operation-of-tight κs a x y s t p q = p ∙ sym q
 
 pub read-instruction-tight : OneResult 0 read-instruction.ps read-instruction.r read-instruction-reads.Post
 read-instruction-tight κs a x y s t p q = p ∙ sym q

@@ -7,7 +7,7 @@ use word::long::LongShift;
 use word::shifts::ShiftCode;
 ghost use mathlib.Core.Path.{_≡_};
 ghost use Prim.Native.Nat.{_≤_, _<_, _*_, _/_, _%_};
-ghost use Rattle.code.specs.Instructions.{flag, registerFlag, operationCode, shiftNumber, alterNumber, ioNumber};
+ghost use Rattle.code.specs.Instructions.{flag, registerFlag, operationCode, operationAt, shiftNumber, alterNumber, ioNumber};
 ghost use Rattle.code.specs.Instructions.{memoryReference, shiftRotate, alterSkip, inputOutput, extended, reading};
 ghost use Rattle.code.specs.Instructions.{places, writeMemoryReference, writeShiftRotate, writeAlterSkip, writeInputOutput};
 ghost use Rattle.code.specs.Instructions.{writeLongShift, writeExtended, built, writeNotBuilt, writing};
@@ -103,11 +103,13 @@ pub enum Written {
 
 // Reading, field by field.
 
-fn operation_of(word: u16) -> Operation
-    requires { ⌜ 2 ≤ word / 0o4000 % 16 ⌝ }
-    ensures { λ r. ⌜ operationCode r ≡ word / 0o4000 % 16 * 0o4000 ⌝ }
+// The operation in bits 14 to 11. A number below AND's, which no memory reference has, gives AND.
+pub fn operation_of(word: u16) -> Operation
+    ensures { λ r. ⌜ r ≡ operationAt (word / 0o4000 % 16) ⌝ }
 {
     match word / 0o4000 % 16 {
+        0 => Operation::And,
+        1 => Operation::And,
         2 => Operation::And,
         3 => Operation::Jsb,
         4 => Operation::Xor,
@@ -179,7 +181,6 @@ fn io_of(word: u16) -> IoOperation
 }
 
 fn read_memory_reference(word: u16) -> Instruction
-    requires { ⌜ 2 ≤ word / 0o4000 % 16 ⌝ }
     ensures { λ r. ⌜ r ≡ memoryReference word ⌝ }
 {
     Instruction::MemoryReference {

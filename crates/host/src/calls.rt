@@ -3,28 +3,11 @@ use crate::record::Taken;
 use crate::record::read_record;
 use crate::record::write_record;
 use machine::record::fresh_record;
-use machine::replies::Reply;
+use machine::replies::number_of;
 use machine::run::run;
 use machine::step::step;
 ghost use mathlib.Core.Path.{_≡_};
-ghost use Rattle.machine.specs.Replies.{number};
 ghost use Rattle.host.specs.Calls.{freshCall, stepCall, runCall, Answers, Calls, RunCalls};
-
-fn number_of(reply: Reply) -> u32
-    ensures { λ n. ⌜ n ≡ number reply ⌝ }
-{
-    match reply {
-        Reply::Completed => 0,
-        Reply::Violation => 1,
-        Reply::InputOutput => 2,
-        Reply::Endless => 3,
-        Reply::Absent => 4,
-        Reply::InRegisters => 5,
-        Reply::NotBuilt => 6,
-        Reply::TrapCell => 7,
-        Reply::BadCall => 8,
-    }
-}
 
 #[no_mangle]
 pub extern "C" fn a400_fresh(words: &mut [u16]) -> u32

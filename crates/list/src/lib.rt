@@ -1,4 +1,3 @@
 // The listing: an image of 1 to 8 pages is read, run and printed.
 pub mod image;
-pub mod octal;
 pub mod show;

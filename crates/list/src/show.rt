@@ -1,23 +1,9 @@
 // Standard input run as an image, and its listing.
 use crate::image::run_image;
-use crate::octal::print_bit;
-use crate::octal::print_word;
 use machine::replies::Ran;
-use machine::replies::Reply;
-
-fn number_of(reply: Reply) -> u64 {
-    match reply {
-        Reply::Completed => 0,
-        Reply::Violation => 1,
-        Reply::InputOutput => 2,
-        Reply::Endless => 3,
-        Reply::Absent => 4,
-        Reply::InRegisters => 5,
-        Reply::NotBuilt => 6,
-        Reply::TrapCell => 7,
-        Reply::BadCall => 8,
-    }
-}
+use machine::replies::number_of;
+use octal::print_bit;
+use octal::print_word;
 
 fn space() {
     io::write_all(1, b" ");
@@ -26,7 +12,7 @@ fn space() {
 fn print_ran(s: Ran) {
     let reply = s.reply;
     let r = s.registers;
-    io::print_decimal(1, number_of(reply));
+    io::print_decimal(1, number_of(reply) as u64);
     space();
     io::print_decimal(1, s.count as u64);
     space();

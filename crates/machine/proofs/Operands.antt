@@ -1,23 +1,35 @@
 -- How a program goes on past its reading parts, and past a store that is its last act: what the proofs of the functions cite.
 --     had-value, had-stop    `exec` of a part, by what a function gave
+--     direct                 an address word with bit 15 clear is the address
+--     by-next, by-chain, by-word    a way at the address that the next word, a chain or a word leads to
 --     stopping               trouble leaves the registers that its answer has, and the memory
 --     saved                  a store, by its place
 --     ends-last              what follows a last store may come before it, where the store does not see it
 -- Assumes nothing.
-use Prim.Native.Nat.{ℕ}
+use Prim.Native.Nat.{ℕ, _/_, _%_, _<_}
+use native.Mathlib.Omega.{arith}
+use native.Mathlib.Nat.{mod-eq-of-lt}
 use mathlib.Core.Path.{_≡_, refl, sym, _∙_, ap}
+use mathlib.Core.Bool.{Bool, true, false}
 use mathlib.Core.List.{List}
 use lib.ListN.{length}
+use borrow.Author.Tests.{ne-eqb}
+use Rattle.word.specs.Words.{bit}
 use Rattle.maps.specs.Pages.{place}
+use Rattle.maps.specs.Laws.{chain-direct}
 use Rattle.maps.specs.declared.pages.Map.{Map}
 use Rattle.maps.specs.declared.pages.Purpose.{Purpose}
 use Rattle.maps.specs.declared.pages.Place.{Place}
 use Rattle.machine.specs.Record.{withA, withB}
-use Rattle.machine.specs.Acts.{Act, fin, save, done, onPlace, exec, answer, left, Ends, Performs, troubled, Gives}
+use Rattle.machine.specs.Acts.{Act, fin, save, follow, operand, done, onPlace, exec, answer, left, Ends, Performs, troubled, Gives}
+use Rattle.machine.specs.Ways.{wayAct}
+use Rattle.machine.specs.Errands.{errandAct}
 use Rattle.machine.specs.declared.record.Registers.{Registers}
 use Rattle.machine.specs.declared.replies.Stepped.{Stepped}
 use Rattle.machine.specs.declared.replies.Trouble.{Trouble}
 use Rattle.machine.specs.declared.reads.Got.{Got}
+use Rattle.machine.specs.declared.ways.Way.{Way}
+use Rattle.machine.specs.declared.errands.Errand.{Errand}
 
 stays : (m : List ℕ) (t : Trouble) → m ≡ left m (troubled t)
 stays m Trouble.Violation = refl
@@ -37,6 +49,26 @@ module _ {pages : List ℕ} {part : (ℕ → Act) → Act} {r : Registers} {m : 
 
   pub had-stop : {t : Trouble} {s : Stepped} → g ≡ Got.Ends t → s ≡ answer r (troubled t) → (k : ℕ → Act) → Performs pages (part k) r m s m
   had-stop {t = t} e f k = rw (had-trouble e k) (stopping t f)
+
+pub direct : (pages m : List ℕ) (r : Registers) (word : ℕ) (k : ℕ → Act) → word < 0o100000
+    → exec pages (follow word k) r m ≡ exec pages (k word) r m
+unfolding exec
+direct pages m r word k h =
+    let e : bit 15 word ≡ false = ne-eqb _ _ (λ (z : word / 0o100000 % 2 ≡ 1). omega arith) in
+    rw (chain-direct pages (r .wmap) m word (r .a) (r .b) e, mod-eq-of-lt h) refl
+
+module _ (pages : List ℕ) (way : Way) (word : ℕ) {m n : List ℕ} {r : Registers} {next : Bool} {at words : ℕ} {s : Stepped}
+    (h : Performs pages (wayAct way r at words) r m s n) where
+  pub by-next : {g : Got} {v : ℕ} → next ≡ true → Gives pages (operand 1 r) r m g → g ≡ Got.Value v → at ≡ v → words ≡ 2
+      → Performs pages (errandAct (Errand.At way next word) r) r m s n
+  by-next e gives f a w = rw (e, had-value gives f (λ q. wayAct way r q 2)) (rw (a, w) at h)
+
+  pub by-chain : {g : Got} {v : ℕ} → next ≡ false → Gives pages (follow word) r m g → g ≡ Got.Value v → at ≡ v → words ≡ 1
+      → Performs pages (errandAct (Errand.At way next word) r) r m s n
+  by-chain e gives f a w = rw (e, had-value gives f (λ q. wayAct way r q 1)) (rw (a, w) at h)
+
+  pub by-word : next ≡ false → word < 0o100000 → at ≡ word → words ≡ 1 → Performs pages (errandAct (Errand.At way next word) r) r m s n
+  by-word e b a w = rw (e, direct pages m r word (λ q. wayAct way r q 1) b) (rw (a, w) at h)
 
 placed : (f : Registers → Registers) (r : Registers) (m : List ℕ) (v : ℕ) (p : Place)
     → f (withA r v) ≡ withA (f r) v → f (withB r v) ≡ withB (f r) v

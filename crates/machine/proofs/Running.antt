@@ -3,22 +3,25 @@
 --     going-on, going-out    a step that replied 0, and one that did not
 --     good-next              the call stays good
 --     one-more, last-one     the same after steps of a budget
+--     one-step               a run of one step is a step
 -- Assumes nothing.
 use Prim.Native.Nat.{ℕ, suc, _+_, _-_, _<_}
 use native.Mathlib.Omega.{arith}
 use native.Mathlib.Nat.{zero-add, add-assoc}
-use mathlib.Core.Path.{_≡_, sym, ap, ap₂, _∙_}
+use mathlib.Core.Path.{_≡_, refl, sym, ap, ap₂, _∙_}
 use mathlib.Core.Bool.{true, false}
 use mathlib.Core.List.{List}
-use lib.Dec.{eqb}
+use lib.Dec.{eqb, leb}
 use lib.ListN.{length}
 use Rattle.word.specs.Words.{weight}
 use Rattle.machine.specs.Replies.{number}
 use Rattle.machine.specs.Acts.{Ends, exec, answer, left}
 use Rattle.machine.specs.Rules.{stepAct}
-use Rattle.machine.specs.Step.{goodCall, stepped, Leaves, ending, counting, after, running}
+use Rattle.machine.specs.Step.{goodCall, stepped, Leaves, ending, counting, after, running, Goes, Steps}
 use Rattle.machine.specs.declared.record.Registers.{Registers}
+use Rattle.machine.specs.declared.replies.Reply.{Reply}
 use Rattle.machine.specs.declared.replies.Stepped.{Stepped}
+use Rattle.machine.specs.declared.replies.Ran.{Ran}
 use Rattle.machine.proofs.Valid.{good-stepped, good-kept}
 
 abbrev pub plus : ℕ → Leaves → Leaves
@@ -66,3 +69,30 @@ module _ (pages : List ℕ) (r : Registers) (m : List ℕ) (good : goodCall (len
     pub last-one : eqb (number (t .reply)) 0 ≡ false
         → start ≡ plus count (ending (t .reply) (weight (eqb (number (t .reply)) 1)) (t .registers) later)
     last-one h = before ∙ ap (plus count) (going-out (budget - (count + 1)) h)
+
+after-one : (reply : Reply) (s : Registers) (later : List ℕ)
+    → after (record { reply = reply; registers = s }) later (ending Reply.Completed 0 s later) ≡ ending reply (weight (leb (number reply) 1)) s later
+after-one Reply.Completed s later = refl
+after-one Reply.Violation s later = refl
+after-one Reply.InputOutput s later = refl
+after-one Reply.Endless s later = refl
+after-one Reply.Absent s later = refl
+after-one Reply.InRegisters s later = refl
+after-one Reply.NotBuilt s later = refl
+after-one Reply.TrapCell s later = refl
+after-one Reply.BadCall s later = refl
+
+running-one : (pages : List ℕ) (r : Registers) (m : List ℕ)
+    → running pages 1 r m
+    ≡ ending (answer r (stepped pages r m) .reply) (weight (leb (number (answer r (stepped pages r m) .reply)) 1)) (answer r (stepped pages r m) .registers) (left m (stepped pages r m))
+unfolding running
+running-one pages r m = after-one (answer r (stepped pages r m) .reply) (answer r (stepped pages r m) .registers) (left m (stepped pages r m))
+
+pub one-step : (pages : List ℕ) (r : Registers) (m : List ℕ) {t : Ran} {n : List ℕ} {s : Stepped} → Goes (running pages 1 r m) t n
+    → s ≡ record { reply = t .reply; registers = t .registers } → Steps pages r m s pages n
+one-step pages r m h e =
+    record {
+      outcome = e ∙ ap (λ (q : Ran). record { reply = q .reply; registers = q .registers }) (h .outcome ∙ ap (λ (l : Leaves). l .ran) (running-one pages r m));
+      memory = h .memory ∙ ap (λ (l : Leaves). l .memory) (running-one pages r m);
+      registers = refl;
+    }

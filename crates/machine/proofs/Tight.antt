@@ -24,6 +24,8 @@ use Rattle.machine.specs.declared.record.Registers.{Registers}
 use Rattle.machine.specs.declared.replies.Stepped.{Stepped}
 use Rattle.machine.specs.declared.replies.Trouble.{Trouble}
 use Rattle.machine.specs.declared.reads.Got.{Got}
+use Rattle.machine.proofs.replies.number_of.Kinds as number-of
+use Rattle.machine.proofs.replies.number_of.Reads as number-of-reads
 use Rattle.machine.proofs.replies.completed.Kinds as completed
 use Rattle.machine.proofs.replies.completed.Reads as completed-reads
 use Rattle.machine.proofs.replies.refuse.Kinds as refuse
@@ -88,8 +90,6 @@ use Rattle.machine.proofs.memory.memory_way.Kinds as memory-way
 use Rattle.machine.proofs.memory.memory_way.Reads as memory-way-reads
 use Rattle.machine.proofs.memory.memory_word.Kinds as memory-word
 use Rattle.machine.proofs.memory.memory_word.Reads as memory-word-reads
-use Rattle.machine.proofs.memory.memory_reference.Kinds as memory-reference
-use Rattle.machine.proofs.memory.memory_reference.Reads as memory-reference-reads
 use Rattle.machine.proofs.memory.trap_reference.Kinds as trap-reference
 use Rattle.machine.proofs.memory.trap_reference.Reads as trap-reference-reads
 use Rattle.machine.proofs.strings.word_at.Kinds as word-at
@@ -197,6 +197,9 @@ gives-tight (Got.Ends t) (Got.Ends t′) p p′ =
     let e = sym (p .goes (λ _. violate)) ∙ p′ .goes (λ _. violate) in
     ap Got.Ends (sym (told t) ∙ ap (λ x. troubleOf (numbered x)) e ∙ told t′)
 
+pub number-of-tight : OneResult 0 number-of.ps number-of.r number-of-reads.Post
+number-of-tight κs a x y s t p q = p ∙ sym q
+
 pub completed-tight : OneResult 0 completed.ps completed.r completed-reads.Post
 completed-tight κs a x y s t p q = p ∙ sym q
 
@@ -292,9 +295,6 @@ memory-way-tight κs a x y s t p q = p ∙ sym q
 
 pub memory-word-tight : OneResult 0 memory-word.ps memory-word.r memory-word-reads.Post
 memory-word-tight κs a x y s t p q = p ∙ sym q
-
-pub memory-reference-tight : OneMemory 2 memory-reference.ps memory-reference.r memory-reference-reads.Post (λ κs s. now (s .1 .1 .1 .1 .0))
-memory-reference-tight κs a x y s t p q = ends-tight p q
 
 pub trap-reference-tight : OneMemory 2 trap-reference.ps trap-reference.r trap-reference-reads.Post (λ κs s. now (s .1 .1 .1 .1 .0))
 trap-reference-tight κs a x y s t p q = ends-tight p q

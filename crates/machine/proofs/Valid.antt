@@ -67,8 +67,9 @@ use Rattle.code.specs.declared.instructions.Instruction.{Instruction}
 use Rattle.machine.specs.declared.ways.Taking.{Taking}
 use Rattle.machine.specs.declared.ways.Taking.the-variants.{And, Xor, Ior, Add, Compare, Load, Multiply, Divide, LoadIndex, AddIndex}
 use Rattle.machine.specs.declared.ways.Source.{Source}
+use Rattle.machine.specs.declared.ways.Addressing.the-variants.{Plain, Indexed}
 use Rattle.machine.specs.declared.ways.Way.{Way}
-use Rattle.machine.specs.declared.ways.Way.the-variants.{Take, Put, TakeIndexed, PutIndexed, LoadDouble, StoreDouble, StepAndSkip, Jump, JumpSaving}
+use Rattle.machine.specs.declared.ways.Way.the-variants.{Take, Put, LoadDouble, StoreDouble, StepAndSkip, Jump, JumpSaving}
 use Rattle.machine.specs.declared.strings.Element.{Element}
 use Rattle.machine.specs.declared.strings.Element.the-variants.{Word, Byte}
 use Rattle.code.specs.declared.codes.Bits.{Bits}
@@ -272,10 +273,8 @@ taken-valid (AddIndex i) w n s h =
     (index-valid i (flagged (sum (inIndex i s) w) s) (sum (inIndex i s) w .word) h)
 
 pub way-valid : (way : Way) (r : Registers) (m n : ℕ) → m < 0o100000 → KeepsValid (wayAct way r m n)
-way-valid (Take t map) r m n l = λ w. taken-valid t w n
-way-valid (Put s map) r m n l = go-on-valid (r .p) n
-way-valid (TakeIndexed g i) r m n l = λ w. taken-valid (Load g) w n
-way-valid (PutIndexed g i) r m n l = go-on-valid (r .p) n
+way-valid (Take t map x) r m n l = λ w. taken-valid t w n
+way-valid (Put s map x) r m n l = go-on-valid (r .p) n
 way-valid LoadDouble r m n l = λ v w s. ahead-valid n (withB (withA s v) w)
 way-valid StoreDouble r m n l = go-on-valid (r .p) n
 way-valid StepAndSkip r m n l = λ w. go-on-valid (r .p) (n + weight (eqb (incremented w .word) 0))
@@ -406,16 +405,16 @@ operand-valid : (way : Way) (r : Registers) → KeepsValid (atOperand way r)
 operand-valid way r = λ w m l. way-valid way r m 2 l
 
 transfer-valid : (x : Transfer) (g : Register) (i : Index) (r : Registers) → KeepsValid (transferAct x g i r)
-transfer-valid Sax g i r = operand-valid (PutIndexed g i) r
+transfer-valid Sax g i r = operand-valid (Put (Source.Register g) Execute (Indexed i)) r
 transfer-valid Cax g i r = to-index-valid g i
-transfer-valid Lax g i r = operand-valid (TakeIndexed g i) r
+transfer-valid Lax g i r = operand-valid (Take (Load g) Execute (Indexed i)) r
 transfer-valid Cxa g i r = from-index-valid g i
 transfer-valid Xax g i r = exchanged-valid g i
 
 indexing-valid : (x : Indexing) (i : Index) (r : Registers) → KeepsValid (indexingAct x i r)
-indexing-valid Stx i r = operand-valid (Put (Source.Index i) Execute) r
-indexing-valid Ldx i r = operand-valid (Take (LoadIndex i) Execute) r
-indexing-valid Adx i r = operand-valid (Take (AddIndex i) Execute) r
+indexing-valid Stx i r = operand-valid (Put (Source.Index i) Execute Plain) r
+indexing-valid Ldx i r = operand-valid (Take (LoadIndex i) Execute Plain) r
+indexing-valid Adx i r = operand-valid (Take (AddIndex i) Execute Plain) r
 indexing-valid Isx i r = stepped-index-valid i (incremented (inIndex i r) .word)
 indexing-valid Dsx i r = stepped-index-valid i (decremented (inIndex i r) .word)
 
@@ -448,10 +447,8 @@ rule-valid (Instruction.Extended x) r = extended-valid x r
 rule-valid (Instruction.NotBuilt w) r = either (protecting (r .wmap) && privileged w) violate (stop Reply.NotBuilt) tt tt
 
 trap-way-valid : (way : Way) (r : Registers) (word : ℕ) → KeepsValid (trapWay way r word)
-trap-way-valid (Take t map) r word = tt
-trap-way-valid (Put s map) r word = tt
-trap-way-valid (TakeIndexed g i) r word = tt
-trap-way-valid (PutIndexed g i) r word = tt
+trap-way-valid (Take t map x) r word = tt
+trap-way-valid (Put s map x) r word = tt
 trap-way-valid LoadDouble r word = tt
 trap-way-valid StoreDouble r word = tt
 trap-way-valid StepAndSkip r word = tt

@@ -44,26 +44,27 @@ use Rattle.code.specs.declared.instructions.Operation.{Operation}
 use Rattle.code.specs.declared.instructions.Instruction.{Instruction}
 use Rattle.machine.specs.declared.ways.Taking.{Taking}
 use Rattle.machine.specs.declared.ways.Source.{Source}
+use Rattle.machine.specs.declared.ways.Addressing.the-variants.{Plain, Indexed}
 use Rattle.machine.specs.declared.ways.Way.{Way}
-use Rattle.machine.specs.declared.ways.Way.the-variants.{Take, Put, TakeIndexed, PutIndexed, LoadDouble, StoreDouble, StepAndSkip, Jump, JumpSaving}
+use Rattle.machine.specs.declared.ways.Way.the-variants.{Take, Put, LoadDouble, StoreDouble, StepAndSkip, Jump, JumpSaving}
 use Rattle.machine.specs.declared.strings.Element.{Element}
 
 -- AND JSB XOR JMP IOR ISZ ADA ADB CPA CPB LDA LDB STA STB
 abbrev pub memoryWay : Operation → Way
-memoryWay Operation.And = Take Taking.And Execute
+memoryWay Operation.And = Take Taking.And Execute Plain
 memoryWay Operation.Jsb = JumpSaving
-memoryWay Operation.Xor = Take Taking.Xor Execute
+memoryWay Operation.Xor = Take Taking.Xor Execute Plain
 memoryWay Operation.Jmp = Jump
-memoryWay Operation.Ior = Take Taking.Ior Execute
+memoryWay Operation.Ior = Take Taking.Ior Execute Plain
 memoryWay Operation.Isz = StepAndSkip
-memoryWay Operation.Ada = Take (Taking.Add A) Execute
-memoryWay Operation.Adb = Take (Taking.Add B) Execute
-memoryWay Operation.Cpa = Take (Taking.Compare A) Execute
-memoryWay Operation.Cpb = Take (Taking.Compare B) Execute
-memoryWay Operation.Lda = Take (Taking.Load A) Execute
-memoryWay Operation.Ldb = Take (Taking.Load B) Execute
-memoryWay Operation.Sta = Put (Source.Register A) Execute
-memoryWay Operation.Stb = Put (Source.Register B) Execute
+memoryWay Operation.Ada = Take (Taking.Add A) Execute Plain
+memoryWay Operation.Adb = Take (Taking.Add B) Execute Plain
+memoryWay Operation.Cpa = Take (Taking.Compare A) Execute Plain
+memoryWay Operation.Cpb = Take (Taking.Compare B) Execute Plain
+memoryWay Operation.Lda = Take (Taking.Load A) Execute Plain
+memoryWay Operation.Ldb = Take (Taking.Load B) Execute Plain
+memoryWay Operation.Sta = Put (Source.Register A) Execute Plain
+memoryWay Operation.Stb = Put (Source.Register B) Execute Plain
 
 -- 01, Addresses and chains: "bit 10 set means the page of the instruction, clear means page 0, bit 15 indirect": as an address
 -- word, whose bit 15 asks for a level
@@ -77,32 +78,32 @@ dataMap Two = Data2
 
 -- MPY, DIV, DLD, DST "each with an address word"
 abbrev pub arithmeticWay : Arithmetic → Way
-arithmeticWay Mpy = Take Taking.Multiply Execute
-arithmeticWay Div = Take Taking.Divide Execute
+arithmeticWay Mpy = Take Taking.Multiply Execute Plain
+arithmeticWay Div = Take Taking.Divide Execute Plain
 arithmeticWay Dld = LoadDouble
 arithmeticWay Dst = StoreDouble
 
 -- the cross codes: "Only the last access uses DATA1 or DATA2."
 abbrev pub crossWay : Cross → Register → Data → Way
-crossWay Xl g d = Take (Taking.Load g) (dataMap d)
-crossWay Xs g d = Put (Source.Register g) (dataMap d)
-crossWay Xc g d = Take (Taking.Compare g) (dataMap d)
+crossWay Xl g d = Take (Taking.Load g) (dataMap d) Plain
+crossWay Xs g d = Put (Source.Register g) (dataMap d) Plain
+crossWay Xc g d = Take (Taking.Compare g) (dataMap d) Plain
 
 -- a two-word instruction goes its way at the address that its second word leads to
 abbrev pub atOperand : Way → Registers → Act
 atOperand way r = operand 1 r (λ m. wayAct way r m 2)
 
 abbrev pub transferAct : Transfer → Register → Index → Registers → Act
-transferAct Sax g i r = atOperand (PutIndexed g i) r
+transferAct Sax g i r = atOperand (Put (Source.Register g) Execute (Indexed i)) r
 transferAct Cax g i r = fin (copiedToIndex g i)
-transferAct Lax g i r = atOperand (TakeIndexed g i) r
+transferAct Lax g i r = atOperand (Take (Taking.Load g) Execute (Indexed i)) r
 transferAct Cxa g i r = fin (copiedFromIndex g i)
 transferAct Xax g i r = fin (exchanged g i)
 
 abbrev pub indexingAct : Indexing → Index → Registers → Act
-indexingAct Stx i r = atOperand (Put (Source.Index i) Execute) r
-indexingAct Ldx i r = atOperand (Take (Taking.LoadIndex i) Execute) r
-indexingAct Adx i r = atOperand (Take (Taking.AddIndex i) Execute) r
+indexingAct Stx i r = atOperand (Put (Source.Index i) Execute Plain) r
+indexingAct Ldx i r = atOperand (Take (Taking.LoadIndex i) Execute Plain) r
+indexingAct Adx i r = atOperand (Take (Taking.AddIndex i) Execute Plain) r
 indexingAct Isx i r = fin (indexStepped i (incremented (inIndex i r) .word))
 indexingAct Dsx i r = fin (indexStepped i (decremented (inIndex i r) .word))
 
@@ -139,10 +140,8 @@ rule (Instruction.NotBuilt w) r = cond (protecting (r .wmap) && privileged w) vi
 -- 01: "The next step executes the word at Execute address 7, as an instruction on page 0, without moving P. JSB stores P itself
 -- as the return address. The trap is then 0." A cell that "holds neither JMP nor JSB" replies 7.
 abbrev pub trapWay : Way → Registers → ℕ → Act
-trapWay (Take t map) r word = stop Reply.TrapCell
-trapWay (Put s map) r word = stop Reply.TrapCell
-trapWay (TakeIndexed g i) r word = stop Reply.TrapCell
-trapWay (PutIndexed g i) r word = stop Reply.TrapCell
+trapWay (Take t map x) r word = stop Reply.TrapCell
+trapWay (Put s map x) r word = stop Reply.TrapCell
 trapWay LoadDouble r word = stop Reply.TrapCell
 trapWay StoreDouble r word = stop Reply.TrapCell
 trapWay StepAndSkip r word = stop Reply.TrapCell

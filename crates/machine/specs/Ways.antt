@@ -1,6 +1,7 @@
 -- What an instruction does with the word at its address, by the way in which it works on memory.
 --     ahead, flagged      P moved on; E and O by a sum
 --     taken               the word read, and the registers that follow
+--     stored, addressed   what is stored, and where
 --     wayAct              the accesses of each way
 -- Which instruction goes which way is in `Rules`. Assumes nothing.
 use Prim.Native.Nat.{ℕ, _+_, _%_}
@@ -20,8 +21,10 @@ use Rattle.machine.specs.declared.record.Registers.{Registers}
 use Rattle.machine.specs.declared.ways.Taking.{Taking}
 use Rattle.machine.specs.declared.ways.Taking.the-variants.{And, Xor, Ior, Add, Compare, Load, Multiply, Divide, LoadIndex, AddIndex}
 use Rattle.machine.specs.declared.ways.Source.{Source}
+use Rattle.machine.specs.declared.ways.Addressing.{Addressing}
+use Rattle.machine.specs.declared.ways.Addressing.the-variants.{Plain, Indexed}
 use Rattle.machine.specs.declared.ways.Way.{Way}
-use Rattle.machine.specs.declared.ways.Way.the-variants.{Take, Put, TakeIndexed, PutIndexed, LoadDouble, StoreDouble, StepAndSkip, Jump, JumpSaving}
+use Rattle.machine.specs.declared.ways.Way.the-variants.{Take, Put, LoadDouble, StoreDouble, StepAndSkip, Jump, JumpSaving}
 
 -- 01: "P and every sum that makes a word address keep 15 bits."
 abbrev pub ahead : ℕ → Registers → Registers
@@ -59,13 +62,15 @@ abbrev pub stored : Source → Registers → ℕ
 stored (Source.Register g) r = inRegister g r
 stored (Source.Index i) r = inIndex i r
 
+-- 01: "SAX and LAX add the index after the chain."
+abbrev pub addressed : Addressing → ℕ → Registers → ℕ
+addressed Plain m r = m
+addressed (Indexed i) m r = address m (inIndex i r)
+
 -- r are the registers at the instruction's start, m its address, n its words
 abbrev pub wayAct : Way → Registers → ℕ → ℕ → Act
-wayAct (Take t map) r m n = load map m (λ w. fin (taken t w n))
-wayAct (Put s map) r m n = save map m (stored s r) (goOn (address (r .p) n))
--- 01: "SAX and LAX add the index after the chain."
-wayAct (TakeIndexed g i) r m n = load Map.Execute (address m (inIndex i r)) (λ w. fin (taken (Load g) w n))
-wayAct (PutIndexed g i) r m n = save Map.Execute (address m (inIndex i r)) (inRegister g r) (goOn (address (r .p) n))
+wayAct (Take t map x) r m n = load map (addressed x m r) (λ w. fin (taken t w n))
+wayAct (Put s map x) r m n = save map (addressed x m r) (stored s r) (goOn (address (r .p) n))
 -- 01: "DLD reads both words before it changes A or B."
 wayAct LoadDouble r m n = load Map.Execute m (λ v. load Map.Execute (address m 1) (λ w. fin (λ s. ahead n (withB (withA s v) w))))
 -- 01: "DST stores the values at the start and tests both words before storing."

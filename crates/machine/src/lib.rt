@@ -1,3 +1,4 @@
+pub mod errands;
 pub mod group;
 pub mod memory;
 pub mod moves;

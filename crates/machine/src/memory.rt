@@ -7,10 +7,10 @@ use crate::replies::Stepped;
 use crate::replies::completed;
 use crate::replies::refuse;
 use crate::replies::stop_by;
+use crate::ways::Addressing;
 use crate::ways::Source;
 use crate::ways::Taking;
 use crate::ways::Way;
-use crate::ways::at_address;
 use crate::ways::put_last;
 use code::codes::Register;
 use code::instructions::Operation;
@@ -19,8 +19,7 @@ use word::bits::weight_of;
 use word::sums::past;
 ghost use mathlib.Core.Path.{_≡_};
 ghost use Rattle.machine.specs.Record.{withP, withTrap};
-ghost use Rattle.machine.specs.Acts.{Performs, follow};
-ghost use Rattle.machine.specs.Ways.{wayAct};
+ghost use Rattle.machine.specs.Acts.{Performs};
 ghost use Rattle.machine.specs.Rules.{memoryWay, memoryWord, trapWay};
 
 // The operation's way.
@@ -28,20 +27,36 @@ pub(crate) fn memory_way(operation: Operation) -> Way
     ensures { λ r. ⌜ r ≡ memoryWay operation ⌝ }
 {
     match operation {
-        Operation::And => Way::Take(Taking::And, Map::Execute),
+        Operation::And => Way::Take(Taking::And, Map::Execute, Addressing::Plain),
         Operation::Jsb => Way::JumpSaving,
-        Operation::Xor => Way::Take(Taking::Xor, Map::Execute),
+        Operation::Xor => Way::Take(Taking::Xor, Map::Execute, Addressing::Plain),
         Operation::Jmp => Way::Jump,
-        Operation::Ior => Way::Take(Taking::Ior, Map::Execute),
+        Operation::Ior => Way::Take(Taking::Ior, Map::Execute, Addressing::Plain),
         Operation::Isz => Way::StepAndSkip,
-        Operation::Ada => Way::Take(Taking::Add(Register::A), Map::Execute),
-        Operation::Adb => Way::Take(Taking::Add(Register::B), Map::Execute),
-        Operation::Cpa => Way::Take(Taking::Compare(Register::A), Map::Execute),
-        Operation::Cpb => Way::Take(Taking::Compare(Register::B), Map::Execute),
-        Operation::Lda => Way::Take(Taking::Load(Register::A), Map::Execute),
-        Operation::Ldb => Way::Take(Taking::Load(Register::B), Map::Execute),
-        Operation::Sta => Way::Put(Source::Register(Register::A), Map::Execute),
-        Operation::Stb => Way::Put(Source::Register(Register::B), Map::Execute),
+        Operation::Ada => Way::Take(Taking::Add(Register::A), Map::Execute, Addressing::Plain),
+        Operation::Adb => Way::Take(Taking::Add(Register::B), Map::Execute, Addressing::Plain),
+        Operation::Cpa => Way::Take(
+            Taking::Compare(Register::A),
+            Map::Execute,
+            Addressing::Plain,
+        ),
+        Operation::Cpb => Way::Take(
+            Taking::Compare(Register::B),
+            Map::Execute,
+            Addressing::Plain,
+        ),
+        Operation::Lda => Way::Take(Taking::Load(Register::A), Map::Execute, Addressing::Plain),
+        Operation::Ldb => Way::Take(Taking::Load(Register::B), Map::Execute, Addressing::Plain),
+        Operation::Sta => Way::Put(
+            Source::Register(Register::A),
+            Map::Execute,
+            Addressing::Plain,
+        ),
+        Operation::Stb => Way::Put(
+            Source::Register(Register::B),
+            Map::Execute,
+            Addressing::Plain,
+        ),
     }
 }
 
@@ -53,22 +68,6 @@ pub(crate) fn memory_word(indirect: bool, current: bool, offset: u16, p: u16) ->
         weight_of(indirect) * 0o100000 + p / 1024 % 32 * 1024 + offset % 1024
     } else {
         weight_of(indirect) * 0o100000 + offset % 1024
-    }
-}
-
-// An instruction that goes its way at the address that its word leads to.
-pub(crate) fn memory_reference(
-    way: Way,
-    word: u16,
-    r: Registers,
-    pages: &[u16],
-    memory: &mut [u16],
-) -> Stepped
-    ensures { λ s. ⌜ Performs (now (pages .entry)) (follow word (λ m. wayAct way r m 1)) r (now (memory .entry)) s (now (memory .exit)) ⌝ }
-{
-    match get_target(word, r, pages, memory) {
-        Got::Value(at) => at_address(way, at, 1, r, pages, memory),
-        Got::Ends(t) => stop_by(t, r),
     }
 }
 
@@ -114,20 +113,13 @@ pub(crate) fn trap_reference(
 ) -> Stepped
     ensures { λ s. ⌜ Performs (now (pages .entry)) (trapWay (memoryWay operation) r word) r (now (memory .entry)) s (now (memory .exit)) ⌝ }
 {
-    match operation {
-        Operation::Jmp => trap_jump(word, r, pages, memory),
-        Operation::Jsb => trap_jump_saving(word, r, pages, memory),
-        Operation::And => refuse(Reply::TrapCell, r),
-        Operation::Xor => refuse(Reply::TrapCell, r),
-        Operation::Ior => refuse(Reply::TrapCell, r),
-        Operation::Isz => refuse(Reply::TrapCell, r),
-        Operation::Ada => refuse(Reply::TrapCell, r),
-        Operation::Adb => refuse(Reply::TrapCell, r),
-        Operation::Cpa => refuse(Reply::TrapCell, r),
-        Operation::Cpb => refuse(Reply::TrapCell, r),
-        Operation::Lda => refuse(Reply::TrapCell, r),
-        Operation::Ldb => refuse(Reply::TrapCell, r),
-        Operation::Sta => refuse(Reply::TrapCell, r),
-        Operation::Stb => refuse(Reply::TrapCell, r),
+    match memory_way(operation) {
+        Way::Take(_, _, _) => refuse(Reply::TrapCell, r),
+        Way::Put(_, _, _) => refuse(Reply::TrapCell, r),
+        Way::LoadDouble => refuse(Reply::TrapCell, r),
+        Way::StoreDouble => refuse(Reply::TrapCell, r),
+        Way::StepAndSkip => refuse(Reply::TrapCell, r),
+        Way::Jump => trap_jump(word, r, pages, memory),
+        Way::JumpSaving => trap_jump_saving(word, r, pages, memory),
     }
 }

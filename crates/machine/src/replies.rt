@@ -2,6 +2,7 @@
 use crate::record::Registers;
 use crate::record::interrupt;
 ghost use mathlib.Core.Path.{_≡_};
+ghost use Rattle.machine.specs.Replies.{number};
 ghost use Rattle.machine.specs.Acts.{answer, troubled};
 
 pub enum Reply {
@@ -14,6 +15,23 @@ pub enum Reply {
     NotBuilt,
     TrapCell,
     BadCall,
+}
+
+// The paper's number of a reply.
+pub fn number_of(reply: Reply) -> u32
+    ensures { λ n. ⌜ n ≡ number reply ⌝ }
+{
+    match reply {
+        Reply::Completed => 0,
+        Reply::Violation => 1,
+        Reply::InputOutput => 2,
+        Reply::Endless => 3,
+        Reply::Absent => 4,
+        Reply::InRegisters => 5,
+        Reply::NotBuilt => 6,
+        Reply::TrapCell => 7,
+        Reply::BadCall => 8,
+    }
 }
 
 // The reply with the registers that go with it.

@@ -2,33 +2,17 @@
 use crate::record::Registers;
 use crate::replies::Ran;
 use crate::replies::Reply;
+use crate::replies::number_of;
 use crate::step::fetch;
 use crate::step::is_good_call;
 ghost use mathlib.Core.Path.{_≡_};
 ghost use mathlib.Core.Bool.{true};
 ghost use lib.Dec.{eqb};
 ghost use lib.ListN.{length};
-ghost use Rattle.machine.specs.Replies.{number};
 ghost use Rattle.machine.specs.Step.{goodCall, running, Leaves, Runs, Goes};
 
-fn number_of(reply: Reply) -> u32
-    ensures { λ n. ⌜ n ≡ number reply ⌝ }
-{
-    match reply {
-        Reply::Completed => 0,
-        Reply::Violation => 1,
-        Reply::InputOutput => 2,
-        Reply::Endless => 3,
-        Reply::Absent => 4,
-        Reply::InRegisters => 5,
-        Reply::NotBuilt => 6,
-        Reply::TrapCell => 7,
-        Reply::BadCall => 8,
-    }
-}
-
 // The steps of a good call: a step keeps the call good, so it is not tested again.
-fn go(budget: u32, r: Registers, pages: &[u16], memory: &mut [u16]) -> Ran
+pub(crate) fn go(budget: u32, r: Registers, pages: &[u16], memory: &mut [u16]) -> Ran
     requires { ⌜ goodCall (length (now pages)) (length (now memory)) r ≡ true ⌝ }
     ensures { λ s. ⌜ Goes (running (now (pages .entry)) budget r (now (memory .entry))) s (now (memory .exit)) ⌝ }
 {

@@ -1,4 +1,6 @@
 // One step: the call, the fetch, and what was read.
+use crate::errands::Errand;
+use crate::errands::errand_of;
 use crate::group::alter_skip;
 use crate::group::copy_from_index;
 use crate::group::copy_to_index;
@@ -7,13 +9,12 @@ use crate::group::input_output;
 use crate::group::long_rotate;
 use crate::group::shift_rotate;
 use crate::group::step_index;
-use crate::memory::memory_reference;
-use crate::memory::memory_way;
 use crate::memory::memory_word;
 use crate::memory::trap_reference;
 use crate::moves::move_string;
 use crate::reads::Got;
 use crate::reads::get_address;
+use crate::reads::get_target;
 use crate::reads::get_word;
 use crate::record::Registers;
 use crate::record::index;
@@ -23,26 +24,13 @@ use crate::replies::Trouble;
 use crate::replies::completed;
 use crate::replies::refuse;
 use crate::replies::stop_by;
-use crate::strings::Element;
+use crate::run::go;
 use crate::strings::compare;
 use crate::strings::load_byte;
 use crate::strings::mask_bits;
 use crate::strings::store_byte;
-use crate::ways::Source;
-use crate::ways::Taking;
 use crate::ways::Way;
 use crate::ways::at_address;
-use code::codes::Arithmetic;
-use code::codes::Bits;
-use code::codes::Bytes;
-use code::codes::Cross;
-use code::codes::Data;
-use code::codes::Extended;
-use code::codes::Index;
-use code::codes::Indexing;
-use code::codes::Register;
-use code::codes::Transfer;
-use code::codes::Words;
 use code::codes::is_privileged;
 use code::instructions::Instruction;
 use code::instructions::read_instruction;
@@ -52,129 +40,41 @@ use word::sums::increment;
 ghost use mathlib.Core.Path.{_≡_};
 ghost use mathlib.Core.Bool.{cond, _&&_};
 ghost use Rattle.maps.specs.Pages.{protecting};
-ghost use Rattle.machine.specs.Acts.{Performs, violate, stop};
-ghost use Rattle.machine.specs.Group.{PerformsAlone};
 ghost use Rattle.code.specs.Codes.{privileged};
 ghost use Rattle.code.specs.Instructions.{reading};
-ghost use Rattle.machine.specs.Rules.{dataMap, arithmeticWay, crossWay, atOperand};
-ghost use Rattle.machine.specs.Rules.{transferAct, indexingAct, bytesAct, wordsAct, extendedAct};
-ghost use Rattle.machine.specs.Rules.{rule, trapRule, stepAct};
+ghost use Rattle.machine.specs.Acts.{Performs, violate, stop};
+ghost use Rattle.machine.specs.Group.{PerformsAlone};
+ghost use Rattle.machine.specs.Errands.{errandAct};
+ghost use Rattle.machine.specs.Rules.{trapRule, stepAct};
 ghost use Rattle.machine.specs.Record.{valid};
 ghost use Rattle.machine.specs.Step.{goodCall, Steps};
 
-fn data_map(d: Data) -> Map
-    ensures { λ r. ⌜ r ≡ dataMap d ⌝ }
-{
-    match d {
-        Data::One => Map::Data1,
-        Data::Two => Map::Data2,
-    }
-}
-
-fn arithmetic_way(x: Arithmetic) -> Way
-    ensures { λ r. ⌜ r ≡ arithmeticWay x ⌝ }
-{
-    match x {
-        Arithmetic::Mpy => Way::Take(Taking::Multiply, Map::Execute),
-        Arithmetic::Div => Way::Take(Taking::Divide, Map::Execute),
-        Arithmetic::Dld => Way::LoadDouble,
-        Arithmetic::Dst => Way::StoreDouble,
-    }
-}
-
-fn cross_way(x: Cross, g: Register, d: Data) -> Way
-    ensures { λ r. ⌜ r ≡ crossWay x g d ⌝ }
-{
-    match x {
-        Cross::Xl => Way::Take(Taking::Load(g), data_map(d)),
-        Cross::Xs => Way::Put(Source::Register(g), data_map(d)),
-        Cross::Xc => Way::Take(Taking::Compare(g), data_map(d)),
-    }
-}
-
-// A two-word instruction goes its way at the address that its second word leads to.
-fn at_operand(way: Way, r: Registers, pages: &[u16], memory: &mut [u16]) -> Stepped
-    ensures { λ s. ⌜ Performs (now (pages .entry)) (atOperand way r) r (now (memory .entry)) s (now (memory .exit)) ⌝ }
-{
-    match get_address(1, r, pages, memory) {
-        Got::Value(at) => at_address(way, at, 2, r, pages, memory),
-        Got::Ends(t) => stop_by(t, r),
-    }
-}
-
-fn transfer(
-    x: Transfer,
-    g: Register,
-    i: Index,
+// An instruction goes its way at the address that its start leads to.
+fn go_way(
+    way: Way,
+    next: bool,
+    word: u16,
     r: Registers,
     pages: &[u16],
     memory: &mut [u16],
 ) -> Stepped
-    ensures { λ s. ⌜ Performs (now (pages .entry)) (transferAct x g i r) r (now (memory .entry)) s (now (memory .exit)) ⌝ }
+    ensures { λ s. ⌜ Performs (now (pages .entry)) (errandAct (Errand.At way next word) r) r (now (memory .entry)) s (now (memory .exit)) ⌝ }
 {
-    match x {
-        Transfer::Sax => at_operand(Way::PutIndexed(g, i), r, pages, memory),
-        Transfer::Cax => completed(copy_to_index(g, i, r)),
-        Transfer::Lax => at_operand(Way::TakeIndexed(g, i), r, pages, memory),
-        Transfer::Cxa => completed(copy_from_index(g, i, r)),
-        Transfer::Xax => completed(exchange(g, i, r)),
+    let mut at = word;
+    let mut words: u16 = 1;
+    if next {
+        words = 2;
+        match get_address(1, r, pages, memory) {
+            Got::Value(v) => at = v,
+            Got::Ends(t) => return stop_by(t, r),
+        }
+    } else if word >= 0o100000 {
+        match get_target(word, r, pages, memory) {
+            Got::Value(v) => at = v,
+            Got::Ends(t) => return stop_by(t, r),
+        }
     }
-}
-
-fn indexing(x: Indexing, i: Index, r: Registers, pages: &[u16], memory: &mut [u16]) -> Stepped
-    ensures { λ s. ⌜ Performs (now (pages .entry)) (indexingAct x i r) r (now (memory .entry)) s (now (memory .exit)) ⌝ }
-{
-    match x {
-        Indexing::Stx => at_operand(Way::Put(Source::Index(i), Map::Execute), r, pages, memory),
-        Indexing::Ldx => at_operand(
-            Way::Take(Taking::LoadIndex(i), Map::Execute),
-            r,
-            pages,
-            memory,
-        ),
-        Indexing::Adx => at_operand(
-            Way::Take(Taking::AddIndex(i), Map::Execute),
-            r,
-            pages,
-            memory,
-        ),
-        Indexing::Isx => completed(step_index(i, increment(index(i, r)).word, r)),
-        Indexing::Dsx => completed(step_index(i, decrement(index(i, r)).word, r)),
-    }
-}
-
-fn bytes(x: Bytes, r: Registers, pages: &[u16], memory: &mut [u16]) -> Stepped
-    ensures { λ s. ⌜ Performs (now (pages .entry)) (bytesAct x r) r (now (memory .entry)) s (now (memory .exit)) ⌝ }
-{
-    match x {
-        Bytes::Lbt => load_byte(r, pages, memory),
-        Bytes::Sbt => store_byte(r, pages, memory),
-        Bytes::Mbt => move_string(Element::Byte, r, pages, memory),
-        Bytes::Cbt => compare(Element::Byte, r, pages, memory),
-    }
-}
-
-fn words(x: Words, r: Registers, pages: &[u16], memory: &mut [u16]) -> Stepped
-    ensures { λ s. ⌜ Performs (now (pages .entry)) (wordsAct x r) r (now (memory .entry)) s (now (memory .exit)) ⌝ }
-{
-    match x {
-        Words::Cmw => compare(Element::Word, r, pages, memory),
-        Words::Mvw => move_string(Element::Word, r, pages, memory),
-    }
-}
-
-fn extended(x: Extended, r: Registers, pages: &[u16], memory: &mut [u16]) -> Stepped
-    ensures { λ s. ⌜ Performs (now (pages .entry)) (extendedAct x r) r (now (memory .entry)) s (now (memory .exit)) ⌝ }
-{
-    match x {
-        Extended::Cross(c, g, d) => at_operand(cross_way(c, g, d), r, pages, memory),
-        Extended::Transfer(t, g, i) => transfer(t, g, i, r, pages, memory),
-        Extended::Indexing(t, i) => indexing(t, i, r, pages, memory),
-        Extended::Arithmetic(t) => at_operand(arithmetic_way(t), r, pages, memory),
-        Extended::Bytes(t) => bytes(t, r, pages, memory),
-        Extended::Bits(t) => mask_bits(t, r, pages, memory),
-        Extended::Words(t) => words(t, r, pages, memory),
-    }
+    at_address(way, at, words, r, pages, memory)
 }
 
 // A word that isn't built: with protection on, 105700 to 105711 are violations.
@@ -187,31 +87,28 @@ fn not_built(w: u16, r: Registers) -> Stepped
     refuse(Reply::NotBuilt, r)
 }
 
-// The word that was fetched is read and carried out.
-fn carry_out(word: u16, r: Registers, pages: &[u16], memory: &mut [u16]) -> Stepped
-    ensures { λ s. ⌜ Performs (now (pages .entry)) (rule (reading word) r) r (now (memory .entry)) s (now (memory .exit)) ⌝ }
+fn perform(errand: Errand, r: Registers, pages: &[u16], memory: &mut [u16]) -> Stepped
+    ensures { λ s. ⌜ Performs (now (pages .entry)) (errandAct errand r) r (now (memory .entry)) s (now (memory .exit)) ⌝ }
 {
-    match read_instruction(word) {
-        Instruction::MemoryReference {
-            operation,
-            indirect,
-            current,
-            offset,
-        } => {
-            let address = memory_word(indirect, current, offset, r.p);
-            memory_reference(memory_way(operation), address, r, pages, memory)
+    match errand {
+        Errand::At(way, next, word) => go_way(way, next, word, r, pages, memory),
+        Errand::ShiftRotate(fields) => completed(shift_rotate(fields, r)),
+        Errand::AlterSkip(fields) => completed(alter_skip(fields, r)),
+        Errand::InputOutput(operation, bit11, bit9, select) => {
+            input_output(operation, bit11, bit9, select, r)
         }
-        Instruction::ShiftRotate(fields) => completed(shift_rotate(fields, r)),
-        Instruction::AlterSkip(fields) => completed(alter_skip(fields, r)),
-        Instruction::InputOutput {
-            operation,
-            bit11,
-            bit9,
-            select,
-        } => input_output(operation, bit11, bit9, select, r),
-        Instruction::LongShift { kind, places } => completed(long_rotate(kind, places, r)),
-        Instruction::Extended(x) => extended(x, r, pages, memory),
-        Instruction::NotBuilt(w) => not_built(w, r),
+        Errand::LongShift(kind, places) => completed(long_rotate(kind, places, r)),
+        Errand::CopyToIndex(g, i) => completed(copy_to_index(g, i, r)),
+        Errand::CopyFromIndex(g, i) => completed(copy_from_index(g, i, r)),
+        Errand::Exchange(g, i) => completed(exchange(g, i, r)),
+        Errand::CountUp(i) => completed(step_index(i, increment(index(i, r)).word, r)),
+        Errand::CountDown(i) => completed(step_index(i, decrement(index(i, r)).word, r)),
+        Errand::LoadByte => load_byte(r, pages, memory),
+        Errand::StoreByte => store_byte(r, pages, memory),
+        Errand::Move(u) => move_string(u, r, pages, memory),
+        Errand::Compare(u) => compare(u, r, pages, memory),
+        Errand::Mask(x) => mask_bits(x, r, pages, memory),
+        Errand::NotBuilt(w) => not_built(w, r),
     }
 }
 
@@ -244,7 +141,7 @@ pub(crate) fn fetch(r: Registers, pages: &[u16], memory: &mut [u16]) -> Stepped
 {
     if r.trap == 0 {
         return match get_word(Map::Execute, r.p, r, pages, memory) {
-            Got::Value(word) => carry_out(word, r, pages, memory),
+            Got::Value(word) => perform(errand_of(word, r.p), r, pages, memory),
             Got::Ends(t) => stop_by(t, r),
         };
     }
@@ -272,12 +169,14 @@ pub(crate) fn is_good_call(registers: usize, words: usize, r: Registers) -> bool
     (registers == 1024) & whole & is_valid(r)
 }
 
-// One step.
+// One step: a run of one.
 pub fn step(r: Registers, pages: &mut [u16], memory: &mut [u16]) -> Stepped
     ensures { λ s. ⌜ Steps (now (pages .entry)) r (now (memory .entry)) s (now (pages .exit)) (now (memory .exit)) ⌝ }
 {
     if is_good_call(pages.len(), memory.len(), r) {
-        return fetch(r, pages, memory);
+        let t = go(1, r, pages, memory);
+        let reply = t.reply;
+        return refuse(reply, t.registers);
     }
     refuse(Reply::BadCall, r)
 }

@@ -36,7 +36,7 @@ ghost use Rattle.maps.specs.declared.pages.Place.{Place as Where};
 ghost use Rattle.machine.specs.Copies.{testedPlace, testedPlaces, registersAt, memoryAt};
 ghost use Rattle.machine.specs.Record.{withA, withB, withO};
 ghost use Rattle.machine.specs.Acts.{Performs, Ends, exec, load, save, fin};
-ghost use Rattle.machine.specs.Ways.{flagged, quotient, taken, stored, ahead, goOn, wayAct};
+ghost use Rattle.machine.specs.Ways.{flagged, quotient, taken, stored, ahead, goOn, addressed, wayAct};
 
 // What is done with a word that is read.
 pub enum Taking {
@@ -58,12 +58,15 @@ pub enum Source {
     Index(Index),
 }
 
+// Where the word lies: at the address, or X or Y past it.
+pub enum Addressing {
+    Plain,
+    Indexed(Index),
+}
+
 pub enum Way {
-    Take(Taking, Map),
-    Put(Source, Map),
-    // at the address plus X or Y
-    TakeIndexed(Register, Index),
-    PutIndexed(Register, Index),
+    Take(Taking, Map, Addressing),
+    Put(Source, Map, Addressing),
     LoadDouble,
     StoreDouble,
     StepAndSkip,
@@ -321,6 +324,15 @@ pub(crate) fn value_of(source: Source, r: Registers) -> u16
     }
 }
 
+fn address_of(addressing: Addressing, at: u16, r: Registers) -> u16
+    ensures { λ m. ⌜ m ≡ addressed addressing at r ⌝ }
+{
+    match addressing {
+        Addressing::Plain => at,
+        Addressing::Indexed(i) => past(at, index(i, r)),
+    }
+}
+
 // What is done at an address, by an instruction of so many words.
 pub(crate) fn at_address(
     way: Way,
@@ -333,34 +345,22 @@ pub(crate) fn at_address(
     ensures { λ s. ⌜ Performs (now (pages .entry)) (wayAct way r at words) r (now (memory .entry)) s (now (memory .exit)) ⌝ }
 {
     match way {
-        Way::Take(taking, map) => take(taking, map, at, words, r, pages, memory),
-        Way::Put(source, map) => {
-            put(
-                value_of(source, r),
-                map,
-                at,
-                past(r.p, words),
-                r,
-                pages,
-                memory,
-            )
-        }
-        Way::TakeIndexed(g, i) => {
+        Way::Take(taking, map, addressing) => {
             take(
-                Taking::Load(g),
-                Map::Execute,
-                past(at, index(i, r)),
+                taking,
+                map,
+                address_of(addressing, at, r),
                 words,
                 r,
                 pages,
                 memory,
             )
         }
-        Way::PutIndexed(g, i) => {
-            let place = past(at, index(i, r));
+        Way::Put(source, map, addressing) => {
+            let place = address_of(addressing, at, r);
             put(
-                register(g, r),
-                Map::Execute,
+                value_of(source, r),
+                map,
                 place,
                 past(r.p, words),
                 r,

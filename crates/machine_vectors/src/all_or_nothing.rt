@@ -1,11 +1,11 @@
 // A move of 1,500 words of which the last 492 have trouble: the first 1,008 are open and present. The
 // expected reply is that of the paper's table, in the order 5, 1, 4 of the rule of MVW, with every
 // word of memory as given. The last line is the same move with nothing in its way.
-use crate::state::number;
 use crate::state::plain;
 use crate::state::program;
 use crate::state::put;
 use crate::state::word;
+use machine::replies::number_of;
 
 fn pattern(memory: &mut [u16]) {
     let mut i: u16 = 0;
@@ -28,7 +28,7 @@ fn is_same(memory: &[u16], before: &[u16]) -> bool {
     true
 }
 
-fn print(label: &[u8], reply: u16, same: bool) {
+fn print(label: &[u8], reply: u32, same: bool) {
     io::write_all(1, label);
     io::print_decimal(1, reply as u64);
     if same {
@@ -55,7 +55,7 @@ fn moved(label: &[u8], wmap: u16, first: u16, second: u16, a: u16, b: u16) {
     r.b = b;
     let s = machine::step::step(r, &mut pages, &mut memory);
     let reply = s.reply;
-    print(label, number(reply), is_same(&memory, &before));
+    print(label, number_of(reply), is_same(&memory, &before));
 }
 
 pub(crate) fn run() {

@@ -3,7 +3,6 @@
 mod all_or_nothing;
 mod image;
 mod line;
-mod octal;
 mod overlap;
 mod show;
 mod state;

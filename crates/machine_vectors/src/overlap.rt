@@ -4,12 +4,12 @@
 // P three on. stdout has `ok` in each line.
 use crate::state::byte;
 use crate::state::differs;
-use crate::state::number;
 use crate::state::plain;
 use crate::state::program;
 use crate::state::put;
 use crate::state::word;
 use machine::replies::Stepped;
+use machine::replies::number_of;
 use word::sums::add;
 
 const COUNT: u16 = 0o10;
@@ -45,7 +45,7 @@ fn moved(code: u16, from: u16, n: u16, memory: &mut [u16]) -> Stepped {
 // How much of what is left beside memory isn't as expected.
 fn wrong_registers(s: Stepped, from: u16, n: u16) -> u16 {
     let answer = s.reply;
-    let reply = differs(number(answer), 0);
+    let reply: u16 = if number_of(answer) == 0 { 0 } else { 1 };
     let a = differs(s.registers.a, plus(from, n));
     let b = differs(s.registers.b, plus(from, plus(n, 1)));
     let p = differs(s.registers.p, 5);

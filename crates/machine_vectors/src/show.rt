@@ -1,12 +1,12 @@
 // A vector's line: the reply, for a run ` after ` and its count, the registers P A B X Y E O WMAP IMAP
 // violation interrupt trap lights, and what has changed in memory and in the page registers.
-use crate::octal::print_bit;
-use crate::octal::print_word;
-use crate::state::number;
 use crate::state::word;
 use machine::record::Registers;
 use machine::replies::Ran;
 use machine::replies::Stepped;
+use machine::replies::number_of;
+use octal::print_bit;
+use octal::print_word;
 use word::sums::add;
 
 fn space(w: u16) {
@@ -35,14 +35,14 @@ fn print_registers(r: Registers) {
 pub(crate) fn print_stepped(s: Stepped) {
     let reply = s.reply;
     io::write_all(1, b" ");
-    io::print_decimal(1, number(reply) as u64);
+    io::print_decimal(1, number_of(reply) as u64);
     print_registers(s.registers);
 }
 
 pub(crate) fn print_ran(s: Ran) {
     let reply = s.reply;
     io::write_all(1, b" ");
-    io::print_decimal(1, number(reply) as u64);
+    io::print_decimal(1, number_of(reply) as u64);
     io::write_all(1, b" after ");
     io::print_decimal(1, s.count as u64);
     print_registers(s.registers);

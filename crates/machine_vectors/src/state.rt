@@ -1,5 +1,4 @@
 // A memory of three pages, its page registers, and how vectors set and read them.
-use machine::replies::Reply;
 
 pub(crate) fn put(words: &mut [u16], at: u16, value: u16) {
     let index = at as usize;
@@ -35,21 +34,6 @@ pub(crate) fn program(memory: &mut [u16], first: u16, second: u16, third: u16) {
     put(memory, 2, first);
     put(memory, 3, second);
     put(memory, 4, third);
-}
-
-// The paper's number of a reply.
-pub(crate) fn number(reply: Reply) -> u16 {
-    match reply {
-        Reply::Completed => 0,
-        Reply::Violation => 1,
-        Reply::InputOutput => 2,
-        Reply::Endless => 3,
-        Reply::Absent => 4,
-        Reply::InRegisters => 5,
-        Reply::NotBuilt => 6,
-        Reply::TrapCell => 7,
-        Reply::BadCall => 8,
-    }
 }
 
 // 0 where a word is as expected, and 1 where it isn't.

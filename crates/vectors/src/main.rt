@@ -1,6 +1,5 @@
 // Vectors, run and compared with the file stdout: the expected lines were worked out by hand and not
 // taken from a run.
-mod octal;
 mod sums;
 
 fn main() {

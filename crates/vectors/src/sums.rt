@@ -5,23 +5,23 @@ use word::sums::Sum;
 
 fn result(sum: Sum) {
     io::write_all(1, b" = ");
-    crate::octal::print_word(sum.word);
+    octal::print_word(sum.word);
     io::write_all(1, b" E ");
-    crate::octal::print_bit(sum.carry);
+    octal::print_bit(sum.carry);
     io::write_all(1, b" O ");
-    crate::octal::print_bit(sum.overflow);
+    octal::print_bit(sum.overflow);
     io::write_all(1, b"\n");
 }
 
 fn added(a: u16, b: u16) {
-    crate::octal::print_word(a);
+    octal::print_word(a);
     io::write_all(1, b" + ");
-    crate::octal::print_word(b);
+    octal::print_word(b);
     result(word::sums::add(a, b));
 }
 
 fn incremented(a: u16) {
-    crate::octal::print_word(a);
+    octal::print_word(a);
     io::write_all(1, b" + 1");
     result(word::sums::increment(a));
 }

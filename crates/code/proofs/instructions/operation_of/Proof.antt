@@ -1,52 +1,62 @@
--- `machine::instructions::operation_of` meets its contract. Assumes nothing.
-use Prim.Native.Nat.{_/_, _%_}
-use Rattle.code.proofs.Digits.{last-arm}
-use borrow.Author.Needs.{needs}
+-- `instructions::operation_of` meets its contract. Assumes nothing.
+use Prim.Native.Nat.{_/_, _%_, zero-le}
+use mathlib.Core.Path.{_≡_, sym, ap}
 use native.Mathlib.Omega.{arith}
+use Rattle.code.specs.Instructions.{operationAt}
+use Rattle.code.proofs.Digits.{last-arm}
 use Rattle.code.proofs.instructions.operation_of.Statement.{statement}
 use Rattle.code.proofs.instructions.operation_of.Tie as tie
 
 returns : tie.Need-returns
-returns c = search needs
+returns c = ap operationAt (sym (c .match .keys1))
 
 returns-2 : tie.Need-returns-2
-returns-2 c = search needs
+returns-2 c = ap operationAt (sym (c .match .keys2))
 
 returns-3 : tie.Need-returns-3
-returns-3 c = search needs
+returns-3 c = ap operationAt (sym (c .match .keys3))
 
 returns-4 : tie.Need-returns-4
-returns-4 c = search needs
+returns-4 c = ap operationAt (sym (c .match .keys4))
 
 returns-5 : tie.Need-returns-5
-returns-5 c = search needs
+returns-5 c = ap operationAt (sym (c .match .keys5))
 
 returns-6 : tie.Need-returns-6
-returns-6 c = search needs
+returns-6 c = ap operationAt (sym (c .match .keys6))
 
 returns-7 : tie.Need-returns-7
-returns-7 c = search needs
+returns-7 c = ap operationAt (sym (c .match .keys7))
 
 returns-8 : tie.Need-returns-8
-returns-8 c = search needs
+returns-8 c = ap operationAt (sym (c .match .keys8))
 
 returns-9 : tie.Need-returns-9
-returns-9 c = search needs
+returns-9 c = ap operationAt (sym (c .match .keys9))
 
 returns-10 : tie.Need-returns-10
-returns-10 c = search needs
+returns-10 c = ap operationAt (sym (c .match .keys10))
 
 returns-11 : tie.Need-returns-11
-returns-11 c = search needs
+returns-11 c = ap operationAt (sym (c .match .keys11))
 
 returns-12 : tie.Need-returns-12
-returns-12 c = search needs
+returns-12 c = ap operationAt (sym (c .match .keys12))
 
 returns-13 : tie.Need-returns-13
-returns-13 c = search needs
+returns-13 c = ap operationAt (sym (c .match .keys13))
 
 returns-14 : tie.Need-returns-14
-returns-14 c = omega (arith, last-arm (c .before .args .word / 0o4000 % 16) 2 13 (c .before .pre) (c .match .rest))
+returns-14 c = ap operationAt (sym (c .match .keys14))
+
+returns-15 : tie.Need-returns-15
+returns-15 c = ap operationAt (sym (c .match .keys15))
+
+returns-16 : tie.Need-returns-16
+returns-16 c =
+    let n = c .before .args .word / 0o4000 % 16 in
+    let e : n ≡ 15 = omega (arith, last-arm n 0 15 zero-le (c .match .rest)) in
+    ap operationAt (sym e)
 
 pub operation-of-spec : {M : Type 1} → statement M
 operation-of-spec =
@@ -65,4 +75,6 @@ operation-of-spec =
     returns-11
     returns-12
     returns-13
-    returns-14)
+    returns-14
+    returns-15
+    returns-16)

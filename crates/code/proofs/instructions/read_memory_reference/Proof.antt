@@ -1,6 +1,5 @@
--- `machine::instructions::read_memory_reference` meets its contract. Assumes nothing.
+-- `instructions::read_memory_reference` meets its contract. Assumes nothing.
 use Rattle.code.specs.Instructions.{memoryReference}
-use Rattle.code.proofs.Choices.{operation-is}
 use borrow.Author.Needs.{needs}
 use Rattle.code.proofs.instructions.read_memory_reference.Statement.{statement}
 use Rattle.code.proofs.instructions.read_memory_reference.Tie as tie
@@ -10,7 +9,7 @@ operation-of-requires c κs = search needs
 
 returns : tie.Need-returns
 unfolding memoryReference
-returns c = rw (operation-is (c .operation-of .result) _ (c .operation-of .ensures), memoryReference)
+returns c = rw (c .operation-of .ensures, memoryReference)
 
 pub read-memory-reference-spec : {M : Type 1} → statement M
 read-memory-reference-spec = tie.close (tie.spec operation-of-requires returns)

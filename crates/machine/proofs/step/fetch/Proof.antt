@@ -1,4 +1,5 @@
 -- `step::fetch` meets its contract: by what its calls ensure. Assumes nothing.
+use mathlib.Core.Path.{refl}
 use borrow.Author.Tests.{eq-eqb, ne-eqb}
 use Rattle.machine.proofs.Operands.{had-value, had-stop}
 use borrow.Author.Needs.{needs}
@@ -11,8 +12,11 @@ get-word-requires c κs = search needs
 enum-known-word : tie.Need-enum-known-word
 enum-known-word c = search needs
 
-carry-out-requires : tie.Need-carry-out-requires
-carry-out-requires c κs = search needs
+errand-of-requires : tie.Need-errand-of-requires
+errand-of-requires c κs = search needs
+
+perform-requires : tie.Need-perform-requires
+perform-requires c κs = search needs
 
 enum-known-t : tie.Need-enum-known-t
 enum-known-t c = search needs
@@ -24,7 +28,7 @@ same-length : tie.Need-same-length
 same-length c = search needs
 
 returns : tie.Need-returns
-returns c = rw (eq-eqb _ _ (c .before .before .before .before .before .before .before .before .before .if1 .taken), had-value (c .before .before .before .before .before .before .before .get-word .ensures) (c .before .before .before .before .before .word .given .1) _) (c .before .before .carry-out .ensures)
+returns c = rw (eq-eqb _ _ (c .before .before .before .before .before .before .before .before .before .before .if1 .taken), had-value (c .before .before .before .before .before .before .before .before .get-word .ensures) (c .before .before .before .before .before .before .word .given .1) _, ← c .before .before .before .before .errand-of .ensures (c .before .before .before .before .before .before .before .before .before .before .before .before .before .before .args .r) refl) (c .before .before .perform .ensures)
 
 same-length-2 : tie.Need-same-length-2
 same-length-2 c = search needs
@@ -65,7 +69,8 @@ fetch-spec =
     (tie.spec
     get-word-requires
     enum-known-word
-    carry-out-requires
+    errand-of-requires
+    perform-requires
     enum-known-t
     stop-by-requires
     same-length

@@ -1,6 +1,7 @@
--- `step::step` meets its contract: each arm answers as the definition does there, by what its calls ensure. Assumes nothing.
+-- `step::step` meets its contract: a run of one step is a step. Assumes nothing.
+use mathlib.Core.Path.{refl, sym, _∙_}
 use Rattle.machine.specs.Step.{stepped}
-use mathlib.Core.Path.{refl}
+use Rattle.machine.proofs.Running.{one-step}
 use borrow.Author.Needs.{needs}
 use Rattle.machine.proofs.step.step.Statement.{statement}
 use Rattle.machine.proofs.step.step.Tie as tie
@@ -8,8 +9,11 @@ use Rattle.machine.proofs.step.step.Tie as tie
 is-good-call-requires : tie.Need-is-good-call-requires
 is-good-call-requires c κs = search needs
 
-fetch-requires : tie.Need-fetch-requires
-fetch-requires c κs = search needs
+go-requires : tie.Need-go-requires
+go-requires c κs = sym (c .before .before .before .is-good-call .ensures) ∙ c .before .before .if1 .taken
+
+refuse-requires : tie.Need-refuse-requires
+refuse-requires c κs = search needs
 
 same-length : tie.Need-same-length
 same-length c = search needs
@@ -18,24 +22,24 @@ same-length-2 : tie.Need-same-length-2
 same-length-2 c = search needs
 
 returns : tie.Need-returns
-unfolding stepped
-returns c = record { outcome = rw (← c .before .before .before .before .before .before .is-good-call .ensures, c .before .before .before .before .before .if1 .taken) (c .before .before .fetch .ensures .outcome); memory = rw (← c .before .before .before .before .before .before .is-good-call .ensures, c .before .before .before .before .before .if1 .taken) (c .before .before .fetch .ensures .memory); registers = refl }
+returns c = one-step _ _ _ (c .before .before .before .go .ensures) (c .refuse .ensures)
 
-refuse-requires : tie.Need-refuse-requires
-refuse-requires c κs = search needs
+refuse-requires-2 : tie.Need-refuse-requires-2
+refuse-requires-2 c κs = search needs
 
 returns-2 : tie.Need-returns-2
 unfolding stepped
-returns-2 c = record { outcome = rw (← c .before .before .is-good-call .ensures, c .before .if1 .left, c .refuse .ensures); memory = rw (← c .before .before .is-good-call .ensures, c .before .if1 .left); registers = refl }
+returns-2 c = record { outcome = rw (← c .before .before .is-good-call .ensures, c .before .if1 .left, c .refuse2 .ensures); memory = rw (← c .before .before .is-good-call .ensures, c .before .if1 .left); registers = refl }
 
 pub step-spec : {M : Type 1} → statement M
 step-spec =
     tie.close
     (tie.spec
     is-good-call-requires
-    fetch-requires
+    go-requires
+    refuse-requires
     same-length
     same-length-2
     returns
-    refuse-requires
+    refuse-requires-2
     returns-2)

@@ -1,7 +1,7 @@
--- `step::arithmetic_way` meets its contract: each arm answers as the definition does there, by what its calls ensure. Assumes nothing.
+-- `errands::arithmetic_way` meets its contract: each arm answers as the definition does there, by what its calls ensure. Assumes nothing.
 use borrow.Author.Needs.{needs}
-use Rattle.machine.proofs.step.arithmetic_way.Statement.{statement}
-use Rattle.machine.proofs.step.arithmetic_way.Tie as tie
+use Rattle.machine.proofs.errands.arithmetic_way.Statement.{statement}
+use Rattle.machine.proofs.errands.arithmetic_way.Tie as tie
 
 enum-told : tie.Need-enum-told
 enum-told c = search needs

@@ -1,4 +1,4 @@
-// A word as six octal digits, and a bit as one.
+// A word as six octal digits, and a bit as one, on standard output.
 fn digit(n: u16) -> u8 {
     b'0' + (n % 8) as u8
 }

@@ -1,7 +1,7 @@
--- `step::cross_way` meets its contract: each arm answers as the definition does there, by what its calls ensure. Assumes nothing.
+-- `errands::cross_way` meets its contract: each arm answers as the definition does there, by what its calls ensure. Assumes nothing.
 use borrow.Author.Needs.{needs}
-use Rattle.machine.proofs.step.cross_way.Statement.{statement}
-use Rattle.machine.proofs.step.cross_way.Tie as tie
+use Rattle.machine.proofs.errands.cross_way.Statement.{statement}
+use Rattle.machine.proofs.errands.cross_way.Tie as tie
 
 enum-told : tie.Need-enum-told
 enum-told c = search needs
