@@ -6,6 +6,7 @@
 --     Ranges          the tests and stores of a move, element by element
 --     Runs            elements that lie on one page
 --     Copying         a move after its tests
+--     Alike           bytes copied by whole words
 --     Touching        whether a range touches A or B, from its ends
 --     Valid           a step keeps the record valid, and the call good
 --     Running         a run, one step after another
@@ -20,6 +21,7 @@ pub mod Comparisons
 pub mod Ranges
 pub mod Runs
 pub mod Copying
+pub mod Alike
 pub mod Touching
 pub mod Valid
 pub mod Running

@@ -25,7 +25,7 @@ use word::bits::byte_of;
 use word::bits::with_byte;
 ghost use Prim.Native.Nat.{ℕ, _+_, _%_, _<_, _≤_};
 ghost use mathlib.Core.Path.{_≡_};
-ghost use mathlib.Core.Bool.{false, not, _&&_, _||_};
+ghost use mathlib.Core.Bool.{true, false, not, _&&_, _||_};
 ghost use mathlib.Core.List.{List};
 ghost use lib.Dec.{eqb, ltb};
 ghost use lib.ListN.{length};
@@ -228,8 +228,8 @@ fn copy_one(u: Element, source: usize, target: usize, memory: &mut [u16])
     }
 }
 
-// A run of elements, each seeing the earlier stores.
-fn copy_run(u: Element, source: usize, target: usize, n: u16, memory: &mut [u16])
+// One element after another, each seeing the earlier stores.
+fn copy_each(u: Element, source: usize, target: usize, n: u16, memory: &mut [u16])
     requires { ⌜ (source + n ≤ placesIn u (now memory)) × (target + n ≤ placesIn u (now memory)) ⌝ }
     ensures { λ _. ⌜ now (memory .exit) ≡ copies u source target n (now (memory .entry)) ⌝ }
 {
@@ -241,6 +241,44 @@ fn copy_run(u: Element, source: usize, target: usize, n: u16, memory: &mut [u16]
         i += 1;
         j += 1;
         left -= 1;
+    }
+}
+
+// Bytes whose places are both even or both odd: the words between the first byte and the last are
+// copied whole.
+fn copy_bytes(source: usize, target: usize, n: u16, memory: &mut [u16])
+    requires { ⌜ (source % 2 ≡ target % 2) × (source + n ≤ placesIn Element.Byte (now memory)) × (target + n ≤ placesIn Element.Byte (now memory)) ⌝ }
+    ensures { λ _. ⌜ now (memory .exit) ≡ copies Element.Byte source target n (now (memory .entry)) ⌝ }
+{
+    let head = at_most((source % 2) as u16, n);
+    copy_each(Element::Byte, source, target, head, memory);
+    let i = source + head as usize;
+    let j = target + head as usize;
+    let words = (n - head) / 2;
+    copy_each(Element::Word, i / 2, j / 2, words, memory);
+    let done = words as usize * 2;
+    copy_each(Element::Byte, i + done, j + done, (n - head) % 2, memory);
+}
+
+// Whether the elements are bytes that lie alike in their words.
+fn lie_alike(u: Element, source: usize, target: usize) -> bool
+    ensures { λ b. ⌜ (b ≡ true → (u ≡ Element.Byte) × (source % 2 ≡ target % 2)) ⌝ }
+{
+    match u {
+        Element::Word => false,
+        Element::Byte => source % 2 == target % 2,
+    }
+}
+
+// A run of elements, each seeing the earlier stores.
+fn copy_run(u: Element, source: usize, target: usize, n: u16, memory: &mut [u16])
+    requires { ⌜ (source + n ≤ placesIn u (now memory)) × (target + n ≤ placesIn u (now memory)) ⌝ }
+    ensures { λ _. ⌜ now (memory .exit) ≡ copies u source target n (now (memory .entry)) ⌝ }
+{
+    if lie_alike(u, source, target) {
+        copy_bytes(source, target, n, memory);
+    } else {
+        copy_each(u, source, target, n, memory);
     }
 }
 

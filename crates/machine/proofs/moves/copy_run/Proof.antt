@@ -1,57 +1,37 @@
--- `moves::copy_run` meets its contract: by what the count and the move promise. Assumes nothing.
-use Rattle.machine.proofs.Copying.{Copied, copied-inside, copied-fits, copied-on}
-use Rattle.machine.specs.Copies.{copies}
-use native.Mathlib.Omega.{arith}
-use mathlib.Core.Path.{_≡_, refl, sym}
+-- `moves::copy_run` meets its contract: by what either copy promises. Assumes nothing.
+use borrow.Author.Needs.{needs}
 use Rattle.machine.proofs.moves.copy_run.Statement.{statement}
 use Rattle.machine.proofs.moves.copy_run.Tie as tie
 
-abbrev Inv-loop : tie.InvT-loop
-Inv-loop u source target n memory₀ i₀ j₀ left₀ memory i j left = Copied u source target n memory₀ i j left memory
+lie-alike-requires : tie.Need-lie-alike-requires
+lie-alike-requires c κs = search needs
 
-abbrev μ-loop : tie.MeasureT-loop
-μ-loop u source target n memory₀ i₀ j₀ left₀ memory i j left = left
+copy-bytes-requires : tie.Need-copy-bytes-requires
+copy-bytes-requires c κs = let h = c .before .before .lie-alike .ensures (c .before .if1 .taken) in let p = rw (h .0) at (c .before .before .before .before .pre) in (h .1, p .0, p .1)
 
-loop-holds : tie.Need-loop-holds Inv-loop μ-loop
-loop-holds c = record { lengths = refl; first = c .before .pre .0; second = c .before .pre .1; onward = refl }
+copy-each-requires : tie.Need-copy-each-requires
+copy-each-requires c κs = c .before .before .before .before .pre
 
-copy-one-requires : tie.Need-copy-one-requires Inv-loop μ-loop
-copy-one-requires c κs = copied-inside _ _ _ _ _ _ _ _ _ (c .before .loop-test .taken) (c .before .before .loop .inv)
+same-length : tie.Need-same-length
+same-length c = c .before .before .copy-bytes .kept .1 .1 .1 .0
 
-add-i : tie.Need-add-i Inv-loop μ-loop
-add-i c = let h = copied-fits _ _ _ _ _ _ _ _ _ (c .before .before .before .before .loop-test .taken) (c .before .before .before .before .before .loop .inv) in omega (arith, h .0, c .before .before .before .before .before .before .before .good)
+returns : tie.Need-returns
+returns c = rw (c .before .before .before .before .before .lie-alike .ensures (c .before .before .before .before .if1 .taken) .0) (c .before .before .copy-bytes .ensures)
 
-add-j : tie.Need-add-j Inv-loop μ-loop
-add-j c = let h = copied-fits _ _ _ _ _ _ _ _ _ (c .before .before .before .before .loop-test .taken) (c .before .before .before .before .before .loop .inv) in omega (arith, h .1, c .before .before .before .before .before .before .before .good)
+same-length-2 : tie.Need-same-length-2
+same-length-2 c = c .before .before .copy-each .kept .1 .1 .1 .1 .0
 
-sub-left : tie.Need-sub-left Inv-loop μ-loop
-sub-left c = omega arith
-
-loop-less : tie.Need-loop-less Inv-loop μ-loop
-loop-less c = omega arith
-
-loop-again : tie.Need-loop-again Inv-loop μ-loop
-loop-again c = copied-on _ _ _ _ _ _ _ _ _ (c .before .before .before .before .loop-test .taken) (c .before .before .before .before .before .loop .inv) (c .before .before .copy-one .ensures)
-
-same-length : tie.Need-same-length Inv-loop μ-loop
-same-length c = c .before .loop .inv .lengths
-
-returns : tie.Need-returns Inv-loop μ-loop
-unfolding copies
-returns c = let e : c .before .loop .left ≡ 0 = omega arith in sym (rw e at (c .before .loop .inv .onward))
+returns-2 : tie.Need-returns-2
+returns-2 c = c .before .before .copy-each .ensures
 
 pub copy-run-spec : {M : Type 1} → statement M
 copy-run-spec =
     tie.close
     (tie.spec
-    Inv-loop
-    μ-loop
-    loop-holds
-    copy-one-requires
-    add-i
-    add-j
-    sub-left
-    loop-less
-    loop-again
+    lie-alike-requires
+    copy-bytes-requires
+    copy-each-requires
     same-length
-    returns)
+    returns
+    same-length-2
+    returns-2)
