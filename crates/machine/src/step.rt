@@ -49,7 +49,8 @@ ghost use Rattle.machine.specs.Rules.{trapRule, stepAct};
 ghost use Rattle.machine.specs.Record.{valid};
 ghost use Rattle.machine.specs.Step.{goodCall, Steps};
 
-// An instruction goes its way at the address that its start leads to.
+// An instruction goes its way at the address that its next word leads to, or else the word given: an
+// address where its bit 15 is clear.
 fn go_way(
     way: Way,
     next: bool,
@@ -87,6 +88,7 @@ fn not_built(w: u16, r: Registers) -> Stepped
     refuse(Reply::NotBuilt, r)
 }
 
+// What was asked for is carried out.
 fn perform(errand: Errand, r: Registers, pages: &[u16], memory: &mut [u16]) -> Stepped
     ensures { λ s. ⌜ Performs (now (pages .entry)) (errandAct errand r) r (now (memory .entry)) s (now (memory .exit)) ⌝ }
 {
