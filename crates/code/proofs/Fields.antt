@@ -22,9 +22,9 @@ use Rattle.code.specs.Instructions.{flag, operationCode, registerFlag, s
 use Rattle.code.specs.Instructions.{memoryReference, shiftRotate, alterSkip, inputOutput, extended, reading, writing}
 use Rattle.code.specs.Instructions.{writeMemoryReference, writeShiftRotate, writeAlterSkip, writeInputOutput}
 use Rattle.code.proofs.Digits.{split, under, digit, low}
-use Rattle.code.proofs.Choices.{operation-range, register-small, shift-small, alter-small, io-small}
-use Rattle.code.proofs.Choices.{operation-back, register-back, shift-back, alter-back, io-back}
-use Rattle.code.proofs.Choices.{operation-code, register-number, shift-number, alter-number, io-number}
+use Rattle.code.proofs.Picks.{operation-range, register-small, shift-small, alter-small, io-small}
+use Rattle.code.proofs.Picks.{operation-back, register-back, shift-back, alter-back, io-back}
+use Rattle.code.proofs.Picks.{operation-code, register-number, shift-number, alter-number, io-number}
 
 flag-bit : (n : ℕ) → n < 2 → flag (eqb n 1) ≡ n
 flag-bit n h = eqb-true (flag (eqb n 1)) n (under (λ i. eqb (flag (eqb i 1)) i) 2 tt n h)

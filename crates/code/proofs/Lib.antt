@@ -3,7 +3,7 @@
 --     Digits          numbers from their parts
 --     Search          the search of a table
 --     Table           each kind is found in the table, and has its own number
---     Choices         the fields that are a choice, and their numbers
+--     Picks           the fields that are a choice, and their numbers
 --     Fields          the groups that their leading bits decide, written and read again
 --     Rows            the extended group, written and read again
 --     Again           all groups together
@@ -13,7 +13,7 @@ pub mod Truth
 pub mod Digits
 pub mod Search
 pub mod Table
-pub mod Choices
+pub mod Picks
 pub mod Fields
 pub mod Rows
 pub mod Again

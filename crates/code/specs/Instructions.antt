@@ -6,7 +6,7 @@
 -- Assumes nothing.
 use Prim.Native.Nat.{ℕ, _+_, _-_, _*_, _/_, _%_}
 use mathlib.Core.Bool.{Bool, true, false, cond}
-use mathlib.Core.List.{[], _∷_}
+use mathlib.Core.List.{List, [], _∷_}
 use lib.Dec.{eqb, ltb, leb}
 use lib.ListN.{getD}
 use Rattle.word.specs.Words.{bit}
@@ -33,7 +33,7 @@ use Rattle.code.specs.declared.instructions.Written.{Written}
 use Rattle.code.specs.declared.instructions.Written.the-variants.{Word, NoWord}
 use Rattle.code.specs.Codes.{findWord, findKind}
 
--- The fields that are a choice: each choice and its number.
+-- The fields that are a choice: each choice and its number, and the choice at a number; past the last it is the last.
 
 -- "AND 010000, JSB 014000, .. STB 074000": bits 14 to 11
 abbrev pub operationCode : Operation → ℕ
@@ -52,17 +52,22 @@ operationCode Ldb = 0o064000
 operationCode Sta = 0o070000
 operationCode Stb = 0o074000
 
+abbrev pub operations : List Operation
+operations = And ∷ Jsb ∷ Xor ∷ Jmp ∷ Ior ∷ Isz ∷ Ada ∷ Adb ∷ Cpa ∷ Cpb ∷ Lda ∷ Ldb ∷ Sta ∷ Stb ∷ []
+
 abbrev pub operationAt : ℕ → Operation
-operationAt n =
-    getD (And ∷ Jsb ∷ Xor ∷ Jmp ∷ Ior ∷ Isz ∷ Ada ∷ Adb ∷ Cpa ∷ Cpb ∷ Lda ∷ Ldb ∷ Sta ∷ Stb ∷ []) (n - 2) Stb
+operationAt n = getD operations (n - 2) Stb
 
 -- "Bit 11 picks B."
 abbrev pub registerFlag : Register → ℕ
 registerFlag A = 0
 registerFlag B = 1
 
+abbrev pub registers : List Register
+registers = A ∷ B ∷ []
+
 abbrev pub registerAt : ℕ → Register
-registerAt n = getD (A ∷ B ∷ []) n B
+registerAt n = getD registers n B
 
 -- "Shift codes 0 to 7: ALS, ARS, RAL, RAR, ALR, ERA, ELA, ALF"
 abbrev pub shiftNumber : ShiftCode → ℕ
@@ -75,8 +80,11 @@ shiftNumber Era = 5
 shiftNumber Ela = 6
 shiftNumber Alf = 7
 
+abbrev pub shifts : List ShiftCode
+shifts = Als ∷ Ars ∷ Ral ∷ Rar ∷ Alr ∷ Era ∷ Ela ∷ Alf ∷ []
+
 abbrev pub shiftAt : ℕ → ShiftCode
-shiftAt n = getD (Als ∷ Ars ∷ Ral ∷ Rar ∷ Alr ∷ Era ∷ Ela ∷ Alf ∷ []) n Alf
+shiftAt n = getD shifts n Alf
 
 -- "CLA 01, CMA 10, CCA 11", "CLE 01, CME 10, CCE 11"
 abbrev pub alterNumber : Alter → ℕ
@@ -85,8 +93,11 @@ alterNumber Clear = 1
 alterNumber Complement = 2
 alterNumber Ones = 3
 
+abbrev pub alters : List Alter
+alters = Keep ∷ Clear ∷ Complement ∷ Ones ∷ []
+
 abbrev pub alterAt : ℕ → Alter
-alterAt n = getD (Keep ∷ Clear ∷ Complement ∷ Ones ∷ []) n Ones
+alterAt n = getD alters n Ones
 
 -- "bits 8 to 6: HLT 0, STF 1 (CLF with bit 9), SFC 2, SFS 3, MIA 4, LIA 5, OTA 6, STC 7 (CLC with bit 11)"
 abbrev pub ioNumber : IoOperation → ℕ
@@ -99,8 +110,11 @@ ioNumber Lia = 5
 ioNumber Ota = 6
 ioNumber Control = 7
 
+abbrev pub ios : List IoOperation
+ios = Hlt ∷ Flag ∷ Sfc ∷ Sfs ∷ Mia ∷ Lia ∷ Ota ∷ Control ∷ []
+
 abbrev pub ioAt : ℕ → IoOperation
-ioAt n = getD (Hlt ∷ Flag ∷ Sfc ∷ Sfs ∷ Mia ∷ Lia ∷ Ota ∷ Control ∷ []) n Control
+ioAt n = getD ios n Control
 
 -- Reading.
 

@@ -1,4 +1,14 @@
 // Every word read as one instruction, and every instruction that has a word written back.
+use crate::choices::alter_at;
+use crate::choices::alter_number;
+use crate::choices::io_at;
+use crate::choices::io_number;
+use crate::choices::operation_at;
+use crate::choices::operation_code;
+use crate::choices::register_at;
+use crate::choices::register_flag;
+use crate::choices::shift_at;
+use crate::choices::shift_number;
 use crate::codes::Extended;
 use crate::codes::Found;
 use crate::codes::Kind;
@@ -6,9 +16,8 @@ use crate::codes::Register;
 use word::long::LongShift;
 use word::shifts::ShiftCode;
 ghost use mathlib.Core.Path.{_≡_};
-ghost use Prim.Native.Nat.{_≤_, _<_, _*_, _/_, _%_};
-ghost use Rattle.code.specs.Instructions.{flag, registerFlag, operationCode, operationAt, shiftNumber, alterNumber, ioNumber};
-ghost use Rattle.code.specs.Instructions.{memoryReference, shiftRotate, alterSkip, inputOutput, extended, reading};
+ghost use Prim.Native.Nat.{_≤_};
+ghost use Rattle.code.specs.Instructions.{flag, memoryReference, shiftRotate, alterSkip, inputOutput, extended, reading};
 ghost use Rattle.code.specs.Instructions.{places, writeMemoryReference, writeShiftRotate, writeAlterSkip, writeInputOutput};
 ghost use Rattle.code.specs.Instructions.{writeLongShift, writeExtended, built, writeNotBuilt, writing};
 
@@ -103,88 +112,11 @@ pub enum Written {
 
 // Reading, field by field.
 
-// The operation in bits 14 to 11. A number below AND's, which no memory reference has, gives AND.
-pub fn operation_of(word: u16) -> Operation
-    ensures { λ r. ⌜ r ≡ operationAt (word / 0o4000 % 16) ⌝ }
-{
-    match word / 0o4000 % 16 {
-        0 => Operation::And,
-        1 => Operation::And,
-        2 => Operation::And,
-        3 => Operation::Jsb,
-        4 => Operation::Xor,
-        5 => Operation::Jmp,
-        6 => Operation::Ior,
-        7 => Operation::Isz,
-        8 => Operation::Ada,
-        9 => Operation::Adb,
-        10 => Operation::Cpa,
-        11 => Operation::Cpb,
-        12 => Operation::Lda,
-        13 => Operation::Ldb,
-        14 => Operation::Sta,
-        _ => Operation::Stb,
-    }
-}
-
-fn register_of(word: u16) -> Register
-    ensures { λ r. ⌜ registerFlag r ≡ word / 0o4000 % 2 ⌝ }
-{
-    if word / 0o4000 % 2 == 1 {
-        Register::B
-    } else {
-        Register::A
-    }
-}
-
-fn shift_of(n: u16) -> ShiftCode
-    requires { ⌜ n < 8 ⌝ }
-    ensures { λ r. ⌜ shiftNumber r ≡ n ⌝ }
-{
-    match n {
-        0 => ShiftCode::Als,
-        1 => ShiftCode::Ars,
-        2 => ShiftCode::Ral,
-        3 => ShiftCode::Rar,
-        4 => ShiftCode::Alr,
-        5 => ShiftCode::Era,
-        6 => ShiftCode::Ela,
-        _ => ShiftCode::Alf,
-    }
-}
-
-fn alter_of(n: u16) -> Alter
-    requires { ⌜ n < 4 ⌝ }
-    ensures { λ r. ⌜ alterNumber r ≡ n ⌝ }
-{
-    match n {
-        0 => Alter::Keep,
-        1 => Alter::Clear,
-        2 => Alter::Complement,
-        _ => Alter::Ones,
-    }
-}
-
-fn io_of(word: u16) -> IoOperation
-    ensures { λ r. ⌜ ioNumber r ≡ word / 0o100 % 8 ⌝ }
-{
-    match word / 0o100 % 8 {
-        0 => IoOperation::Hlt,
-        1 => IoOperation::Flag,
-        2 => IoOperation::Sfc,
-        3 => IoOperation::Sfs,
-        4 => IoOperation::Mia,
-        5 => IoOperation::Lia,
-        6 => IoOperation::Ota,
-        _ => IoOperation::Control,
-    }
-}
-
 fn read_memory_reference(word: u16) -> Instruction
     ensures { λ r. ⌜ r ≡ memoryReference word ⌝ }
 {
     Instruction::MemoryReference {
-        operation: operation_of(word),
+        operation: operation_at(word / 0o4000 % 16),
         indirect: word / 0o100000 % 2 == 1,
         current: word / 0o2000 % 2 == 1,
         offset: word % 0o2000,
@@ -194,9 +126,9 @@ fn read_memory_reference(word: u16) -> Instruction
 fn read_shift_rotate(word: u16) -> Instruction
     ensures { λ r. ⌜ r ≡ shiftRotate word ⌝ }
 {
-    let register = register_of(word);
-    let shift1 = shift_of(word / 0o100 % 8);
-    let shift2 = shift_of(word % 8);
+    let register = register_at(word / 0o4000 % 2);
+    let shift1 = shift_at(word / 0o100 % 8);
+    let shift2 = shift_at(word % 8);
     Instruction::ShiftRotate(ShiftRotate {
         register,
         enabled1: word / 0o1000 % 2 == 1,
@@ -211,9 +143,9 @@ fn read_shift_rotate(word: u16) -> Instruction
 fn read_alter_skip(word: u16) -> Instruction
     ensures { λ r. ⌜ r ≡ alterSkip word ⌝ }
 {
-    let register = register_of(word);
-    let alter = alter_of(word / 0o400 % 4);
-    let extend = alter_of(word / 0o100 % 4);
+    let register = register_at(word / 0o4000 % 2);
+    let alter = alter_at(word / 0o400 % 4);
+    let extend = alter_at(word / 0o100 % 4);
     Instruction::AlterSkip(AlterSkip {
         register,
         alter,
@@ -231,7 +163,7 @@ fn read_input_output(word: u16) -> Instruction
     ensures { λ r. ⌜ r ≡ inputOutput word ⌝ }
 {
     Instruction::InputOutput {
-        operation: io_of(word),
+        operation: io_at(word / 0o100 % 8),
         bit11: word / 0o4000 % 2 == 1,
         bit9: word / 0o1000 % 2 == 1,
         select: word % 0o100,
@@ -288,82 +220,6 @@ fn flag_of(b: bool) -> u16
     ensures small { λ r. ⌜ r ≤ 1 ⌝ }
 {
     if b { 1 } else { 0 }
-}
-
-fn register_flag(register: Register) -> u16
-    ensures is { λ r. ⌜ r ≡ registerFlag register ⌝ }
-    ensures small { λ r. ⌜ r ≤ 1 ⌝ }
-{
-    match register {
-        Register::A => 0,
-        Register::B => 1,
-    }
-}
-
-fn operation_code(operation: Operation) -> u16
-    ensures is { λ r. ⌜ r ≡ operationCode operation ⌝ }
-    ensures small { λ r. ⌜ r ≤ 0o74000 ⌝ }
-{
-    match operation {
-        Operation::And => 0o010000,
-        Operation::Jsb => 0o014000,
-        Operation::Xor => 0o020000,
-        Operation::Jmp => 0o024000,
-        Operation::Ior => 0o030000,
-        Operation::Isz => 0o034000,
-        Operation::Ada => 0o040000,
-        Operation::Adb => 0o044000,
-        Operation::Cpa => 0o050000,
-        Operation::Cpb => 0o054000,
-        Operation::Lda => 0o060000,
-        Operation::Ldb => 0o064000,
-        Operation::Sta => 0o070000,
-        Operation::Stb => 0o074000,
-    }
-}
-
-fn shift_number(code: ShiftCode) -> u16
-    ensures is { λ r. ⌜ r ≡ shiftNumber code ⌝ }
-    ensures small { λ r. ⌜ r ≤ 7 ⌝ }
-{
-    match code {
-        ShiftCode::Als => 0,
-        ShiftCode::Ars => 1,
-        ShiftCode::Ral => 2,
-        ShiftCode::Rar => 3,
-        ShiftCode::Alr => 4,
-        ShiftCode::Era => 5,
-        ShiftCode::Ela => 6,
-        ShiftCode::Alf => 7,
-    }
-}
-
-fn alter_number(alter: Alter) -> u16
-    ensures is { λ r. ⌜ r ≡ alterNumber alter ⌝ }
-    ensures small { λ r. ⌜ r ≤ 3 ⌝ }
-{
-    match alter {
-        Alter::Keep => 0,
-        Alter::Clear => 1,
-        Alter::Complement => 2,
-        Alter::Ones => 3,
-    }
-}
-
-fn io_number(operation: IoOperation) -> u16
-    ensures is { λ r. ⌜ r ≡ ioNumber operation ⌝ }
-    ensures small { λ r. ⌜ r ≤ 7 ⌝ }
-{
-    match operation {
-        IoOperation::Hlt => 0,
-        IoOperation::Flag => 1,
-        IoOperation::Sfc => 2,
-        IoOperation::Sfs => 3,
-        IoOperation::Mia => 4,
-        IoOperation::Lia => 5,
-        IoOperation::Ota => 6,
-        IoOperation::Control => 7,
-    }
 }
 
 fn write_memory_reference(

@@ -1,3 +1,4 @@
-// The extended codes, and every word read as one instruction and written back.
+// The extended codes, the choices of an instruction's fields, and every word read as one instruction and written back.
+pub mod choices;
 pub mod codes;
 pub mod instructions;

@@ -23,7 +23,7 @@ use Rattle.code.specs.declared.instructions.Instruction.the-variants.{MemoryRef
 use Rattle.code.specs.declared.instructions.Written.{Written}
 use Rattle.code.specs.declared.instructions.Written.the-variants.{Word, NoWord}
 use Rattle.code.specs.Instructions.{reading, writing, built, wordOf}
-use Rattle.code.proofs.Choices.{operation-back, register-back, shift-back, alter-back, io-back}
+use Rattle.code.proofs.Picks.{operation-back, register-back, shift-back, alter-back, io-back}
 use Rattle.code.proofs.Rows.{unbuilt}
 use Rattle.code.proofs.Exact as exact
 use Rattle.host.specs.Fields.{longKind, fieldsOf, writingFields}

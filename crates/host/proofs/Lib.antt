@@ -1,7 +1,6 @@
 -- Laws of the C interface that belong to no one function.
 --     Records     the register record as words, and back
 --     Called      a call put together from what the machine promises
---     Picks       a choice out of a table, within it and past it
 --     Sameness    when two lists hold the same words
 --     Below       the search for the word that reads as fields
 --     Again       reading and writing fields are inverse
@@ -10,7 +9,6 @@
 -- Assumes nothing.
 pub mod Records
 pub mod Called
-pub mod Picks
 pub mod Sameness
 pub mod Below
 pub mod Again

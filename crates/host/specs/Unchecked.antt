@@ -1,7 +1,6 @@
 -- An instruction from ten fields, whatever they are. It is only what private functions promise each other: a reader may skip it, as
 -- what the calls give is said in Fields without it.
---     operationNumber  the number of an operation, case by case; that it is bits 14 to 11 is operation-bits of proofs/Picks
---     longAt           the long shift at a number
+--     longs, longAt    the long shifts by their number, and the one at a number
 --     field, isSet     a field, and whether it is 1
 --     shiftRotateAt, alterSkipAt, instructionAt    the instruction
 -- A number out of range is taken for some choice; the instruction then has other fields.
@@ -13,32 +12,17 @@ use lib.Dec.{eqb}
 use lib.ListN.{getD}
 use Rattle.word.specs.declared.long.LongShift.{LongShift}
 use Rattle.word.specs.declared.long.LongShift.the-variants.{Asl, Lsl, Rrl, Asr, Lsr, Rrr}
-use Rattle.code.specs.declared.instructions.Operation.{Operation}
-use Rattle.code.specs.declared.instructions.Operation.the-variants.{And, Jsb, Xor, Jmp, Ior, Isz, Ada, Adb, Cpa, Cpb, Lda, Ldb, Sta, Stb}
 use Rattle.code.specs.declared.instructions.ShiftRotate as of-shift-rotate
 use Rattle.code.specs.declared.instructions.AlterSkip as of-alter-skip
 use Rattle.code.specs.declared.instructions.Instruction.{Instruction}
 use Rattle.code.specs.declared.instructions.Instruction.the-variants.{MemoryReference, ShiftRotate, AlterSkip, InputOutput, LongShift as Shift}
 use Rattle.code.specs.Instructions.{operationAt, registerAt, shiftAt, alterAt, ioAt, reading}
 
-abbrev pub operationNumber : Operation → ℕ
-operationNumber And = 2
-operationNumber Jsb = 3
-operationNumber Xor = 4
-operationNumber Jmp = 5
-operationNumber Ior = 6
-operationNumber Isz = 7
-operationNumber Ada = 8
-operationNumber Adb = 9
-operationNumber Cpa = 10
-operationNumber Cpb = 11
-operationNumber Lda = 12
-operationNumber Ldb = 13
-operationNumber Sta = 14
-operationNumber Stb = 15
+abbrev pub longs : List LongShift
+longs = Asl ∷ Lsl ∷ Rrl ∷ Asr ∷ Lsr ∷ Rrr ∷ []
 
 abbrev pub longAt : ℕ → LongShift
-longAt n = getD (Asl ∷ Lsl ∷ Rrl ∷ Asr ∷ Lsr ∷ Rrr ∷ []) n Rrr
+longAt n = getD longs n Rrr
 
 abbrev pub field : List ℕ → ℕ → ℕ
 field f n = getD f n 0

@@ -1,18 +1,16 @@
 // Instructions as ten flat fields: the calls that read and write one.
-use crate::choices::alter_at;
-use crate::choices::alter_number;
-use crate::choices::io_at;
-use crate::choices::io_number;
-use crate::choices::long_at;
-use crate::choices::long_number;
-use crate::choices::operation_at;
-use crate::choices::operation_number;
-use crate::choices::register_at;
-use crate::choices::register_number;
-use crate::choices::shift_at;
-use crate::choices::shift_number;
 use crate::words::copy_words;
 use crate::words::same_words;
+use code::choices::alter_at;
+use code::choices::alter_number;
+use code::choices::io_at;
+use code::choices::io_number;
+use code::choices::operation_at;
+use code::choices::operation_code;
+use code::choices::register_at;
+use code::choices::register_flag;
+use code::choices::shift_at;
+use code::choices::shift_number;
 use code::codes::Extended;
 use code::instructions::AlterSkip;
 use code::instructions::Instruction;
@@ -21,12 +19,43 @@ use code::instructions::Written;
 use code::instructions::read_instruction;
 use code::instructions::write_instruction;
 use word::bits::weight_of;
+use word::long::LongShift;
 ghost use mathlib.Core.Path.{_≡_};
 ghost use lib.ListN.{length};
 ghost use Rattle.code.specs.Instructions.{writing, wordOf};
 ghost use Rattle.host.specs.Calls.{Answers};
-ghost use Rattle.host.specs.Fields.{fieldsOf, writingFields, readCall, writeCall};
-ghost use Rattle.host.specs.Unchecked.{shiftRotateAt, alterSkipAt, instructionAt};
+ghost use Rattle.host.specs.Fields.{longKind, fieldsOf, writingFields, readCall, writeCall};
+ghost use Rattle.host.specs.Unchecked.{longAt, shiftRotateAt, alterSkipAt, instructionAt};
+
+// The long shifts and their numbers; the other choices are in `code`. A number past the last gives the last.
+
+fn long_number(shift: LongShift) -> u16
+    ensures { λ n. ⌜ n ≡ longKind shift ⌝ }
+{
+    match shift {
+        LongShift::Asl => 0,
+        LongShift::Lsl => 1,
+        LongShift::Rrl => 2,
+        LongShift::Asr => 3,
+        LongShift::Lsr => 4,
+        LongShift::Rrr => 5,
+    }
+}
+
+fn long_at(n: u16) -> LongShift
+    ensures { λ s. ⌜ s ≡ longAt n ⌝ }
+{
+    match n {
+        0 => LongShift::Asl,
+        1 => LongShift::Lsl,
+        2 => LongShift::Rrl,
+        3 => LongShift::Asr,
+        4 => LongShift::Lsr,
+        _ => LongShift::Rrr,
+    }
+}
+
+// From an instruction to its fields.
 
 fn shift_rotate_fields(s: ShiftRotate) -> [u16; 10]
     ensures { λ f. ⌜ f ≡ fieldsOf (Instruction.ShiftRotate s) ⌝ }
@@ -36,7 +65,7 @@ fn shift_rotate_fields(s: ShiftRotate) -> [u16; 10]
     let shift2 = s.shift2;
     [
         1,
-        register_number(register),
+        register_flag(register),
         weight_of(s.enabled1),
         shift_number(shift1),
         weight_of(s.cle),
@@ -56,7 +85,7 @@ fn alter_skip_fields(s: AlterSkip) -> [u16; 10]
     let extend = s.extend;
     [
         2,
-        register_number(register),
+        register_flag(register),
         alter_number(alter),
         weight_of(s.sez),
         alter_number(extend),
@@ -88,7 +117,7 @@ fn fields_of(i: Instruction) -> [u16; 10]
             offset,
         } => [
             0,
-            operation_number(operation),
+            operation_code(operation) / 0o4000,
             weight_of(indirect),
             weight_of(current),
             offset,
@@ -124,6 +153,8 @@ fn fields_of(i: Instruction) -> [u16; 10]
         Instruction::NotBuilt(word) => [6, word, 0, 0, 0, 0, 0, 0, 0, 0],
     }
 }
+
+// From fields to an instruction.
 
 fn shift_rotate_at(fields: &[u16]) -> ShiftRotate
     requires { ⌜ length (now fields) ≡ 10 ⌝ }

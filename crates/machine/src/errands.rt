@@ -6,6 +6,7 @@ use crate::ways::Addressing;
 use crate::ways::Source;
 use crate::ways::Taking;
 use crate::ways::Way;
+use code::choices::operation_at;
 use code::codes::Arithmetic;
 use code::codes::Bits;
 use code::codes::Bytes;
@@ -22,7 +23,6 @@ use code::instructions::Instruction;
 use code::instructions::IoOperation;
 use code::instructions::Operation;
 use code::instructions::ShiftRotate;
-use code::instructions::operation_of;
 use code::instructions::read_instruction;
 use maps::pages::Map;
 use word::long::LongShift;
@@ -176,7 +176,7 @@ pub(crate) fn errand_of(word: u16, p: u16) -> Errand
 {
     if 2 <= word / 0o4000 % 16 {
         return reference(
-            operation_of(word),
+            operation_at(word / 0o4000 % 16),
             word / 0o100000 % 2 == 1,
             word / 0o2000 % 2 == 1,
             word % 0o2000,

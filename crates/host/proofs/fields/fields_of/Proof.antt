@@ -1,14 +1,13 @@
 -- `host::fields::fields_of` meets its contract. Each arm knows which instruction it has. Assumes nothing.
 use borrow.Author.Needs.{needs}
-use Rattle.host.proofs.Picks.{operation-bits}
 use Rattle.host.proofs.fields.fields_of.Statement.{statement}
 use Rattle.host.proofs.fields.fields_of.Tie as tie
 
 enum-known-i : tie.Need-enum-known-i
 enum-known-i c = search needs
 
-operation-number-requires : tie.Need-operation-number-requires
-operation-number-requires c κs = search needs
+operation-code-requires : tie.Need-operation-code-requires
+operation-code-requires c κs = search needs
 
 weight-of-requires : tie.Need-weight-of-requires
 weight-of-requires c κs = search needs
@@ -56,7 +55,7 @@ enum-known-i-7 : tie.Need-enum-known-i-7
 enum-known-i-7 c = search needs
 
 returns : tie.Need-returns
-returns c = rw (c .before .before .before .before .i .given .1, c .before .before .operation-number .ensures, operation-bits, c .before .weight-of .ensures, c .weight-of2 .ensures)
+returns c = rw (c .before .before .before .before .i .given .1, c .before .before .operation-code .ensures .0, c .before .weight-of .ensures, c .weight-of2 .ensures)
 
 returns-2 : tie.Need-returns-2
 returns-2 c = rw (c .before .before .i2 .given .1, c .shift-rotate-fields .ensures)
@@ -65,7 +64,7 @@ returns-3 : tie.Need-returns-3
 returns-3 c = rw (c .before .before .i3 .given .1, c .alter-skip-fields .ensures)
 
 returns-4 : tie.Need-returns-4
-returns-4 c = rw (c .before .before .before .before .i4 .given .1, c .before .before .io-number .ensures, c .before .weight-of3 .ensures, c .weight-of4 .ensures)
+returns-4 c = rw (c .before .before .before .before .i4 .given .1, c .before .before .io-number .ensures .0, c .before .weight-of3 .ensures, c .weight-of4 .ensures)
 
 returns-5 : tie.Need-returns-5
 returns-5 c = rw (c .before .before .i5 .given .1, c .long-number .ensures)
@@ -81,7 +80,7 @@ fields-of-spec =
     tie.close
     (tie.spec
     enum-known-i
-    operation-number-requires
+    operation-code-requires
     weight-of-requires
     weight-of-requires-2
     enum-known-i-2

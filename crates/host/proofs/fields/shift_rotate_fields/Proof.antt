@@ -3,8 +3,8 @@ use borrow.Author.Needs.{needs}
 use Rattle.host.proofs.fields.shift_rotate_fields.Statement.{statement}
 use Rattle.host.proofs.fields.shift_rotate_fields.Tie as tie
 
-register-number-requires : tie.Need-register-number-requires
-register-number-requires c κs = search needs
+register-flag-requires : tie.Need-register-flag-requires
+register-flag-requires c κs = search needs
 
 weight-of-requires : tie.Need-weight-of-requires
 weight-of-requires c κs = search needs
@@ -25,13 +25,13 @@ shift-number-requires-2 : tie.Need-shift-number-requires-2
 shift-number-requires-2 c κs = search needs
 
 returns : tie.Need-returns
-returns c = rw (c .before .before .before .before .before .before .register-number .ensures, c .before .before .before .before .before .weight-of .ensures, c .before .before .before .before .shift-number .ensures, c .before .before .before .weight-of2 .ensures, c .before .before .weight-of3 .ensures, c .before .weight-of4 .ensures, c .shift-number2 .ensures)
+returns c = rw (c .before .before .before .before .before .before .register-flag .ensures .0, c .before .before .before .before .before .weight-of .ensures, c .before .before .before .before .shift-number .ensures .0, c .before .before .before .weight-of2 .ensures, c .before .before .weight-of3 .ensures, c .before .weight-of4 .ensures, c .shift-number2 .ensures .0)
 
 pub shift-rotate-fields-spec : {M : Type 1} → statement M
 shift-rotate-fields-spec =
     tie.close
     (tie.spec
-    register-number-requires
+    register-flag-requires
     weight-of-requires
     shift-number-requires
     weight-of-requires-2

@@ -6,15 +6,15 @@ use borrow.Author.Needs.{needs}
 use Rattle.machine.proofs.errands.errand_of.Statement.{statement}
 use Rattle.machine.proofs.errands.errand_of.Tie as tie
 
-operation-of-requires : tie.Need-operation-of-requires
-operation-of-requires c κs = search needs
+operation-at-requires : tie.Need-operation-at-requires
+operation-at-requires c κs = search needs
 
 reference-requires : tie.Need-reference-requires
 reference-requires c κs = search needs
 
 returns : tie.Need-returns
 unfolding reading memoryReference
-returns c = rw (reading, le-leb _ _ (c .before .before .if1 .taken), memoryReference, ← c .before .operation-of .ensures) (c .reference .ensures)
+returns c = rw (reading, le-leb _ _ (c .before .before .if1 .taken), memoryReference, ← c .before .operation-at .ensures) (c .reference .ensures)
 
 read-instruction-requires : tie.Need-read-instruction-requires
 read-instruction-requires c κs = search needs
@@ -71,7 +71,7 @@ pub errand-of-spec : {M : Type 1} → statement M
 errand-of-spec =
     tie.close
     (tie.spec
-    operation-of-requires
+    operation-at-requires
     reference-requires
     returns
     read-instruction-requires

@@ -1,14 +1,18 @@
 -- The fields of an instruction that are a choice, and their numbers: each way back.
 --     operation-back, register-back, shift-back, alter-back, io-back    the choice of a choice's number
---     operation-is, register-is, shift-is, alter-is, io-is    the same, from the number
 --     operation-code, register-number, shift-number, alter-number, io-number    the number of a number's choice
 --     operation-range, register-small, shift-small, alter-small, io-small    how large a choice's number is
+--     last-choice   a number past the last choice gives the last
 -- Assumes nothing.
-use mathlib.Core.Path.{_≡_, refl, _∙_, sym, ap}
-use Prim.Native.Nat.{ℕ, _+_, _*_, _/_, _-_, _≤_, _<_}
+use mathlib.Core.Path.{_≡_, refl, sym}
+use mathlib.Core.Logic.{⊎-elim}
+use mathlib.Core.List.{List}
+use Prim.Native.Nat.{ℕ, suc, _+_, _*_, _/_, _-_, _≤_, _<_}
 use native.Mathlib.Omega.{arith}
+use native.Mathlib.Nat.{eq-or-lt-of-le}
 use borrow.Author.Tests.{eqb-true}
 use lib.Dec.{eqb}
+use lib.ListN.{length, getD, List·getD-eq-default}
 use Rattle.word.specs.declared.shifts.ShiftCode.{ShiftCode}
 use Rattle.word.specs.declared.shifts.ShiftCode.the-variants.{Als, Ars, Ral, Rar, Alr, Era, Ela, Alf}
 use Rattle.code.specs.declared.codes.Register.{Register}
@@ -68,21 +72,6 @@ io-back Mia = refl
 io-back Lia = refl
 io-back Ota = refl
 io-back Control = refl
-
-pub operation-is : (o : Operation) (n : ℕ) → operationCode o ≡ n * 0o4000 → o ≡ operationAt n
-operation-is o n h = let q : operationCode o / 0o4000 ≡ n = omega arith in sym (operation-back o) ∙ ap operationAt q
-
-pub register-is : (o : Register) (n : ℕ) → registerFlag o ≡ n → o ≡ registerAt n
-register-is o n h = sym (register-back o) ∙ ap registerAt h
-
-pub shift-is : (o : ShiftCode) (n : ℕ) → shiftNumber o ≡ n → o ≡ shiftAt n
-shift-is o n h = sym (shift-back o) ∙ ap shiftAt h
-
-pub alter-is : (o : Alter) (n : ℕ) → alterNumber o ≡ n → o ≡ alterAt n
-alter-is o n h = sym (alter-back o) ∙ ap alterAt h
-
-pub io-is : (o : IoOperation) (n : ℕ) → ioNumber o ≡ n → o ≡ ioAt n
-io-is o n h = sym (io-back o) ∙ ap ioAt h
 
 pub operation-code : (n : ℕ) → 2 ≤ n → n < 16 → operationCode (operationAt n) ≡ n * 0o4000
 operation-code n l h =
@@ -150,3 +139,9 @@ io-small Mia = omega arith
 io-small Lia = omega arith
 io-small Ota = omega arith
 io-small Control = omega arith
+
+-- The last choice, at k, is the default as well.
+pub last-choice :
+    {A : Type 0} (l : List A) (d : A) (n k : ℕ) → getD l k d ≡ d → length l ≡ suc k → k ≤ n → d ≡ getD l n d
+last-choice l d n k last all h =
+    ⊎-elim (λ (q : k ≡ n). rw (← q) (sym last)) (λ (p : k < n). sym (List·getD-eq-default l d {n = n} (rw all p))) (eq-or-lt-of-le h)

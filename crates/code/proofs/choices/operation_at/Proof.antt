@@ -1,11 +1,12 @@
--- `instructions::operation_of` meets its contract. Assumes nothing.
-use Prim.Native.Nat.{_/_, _%_, zero-le}
-use mathlib.Core.Path.{_≡_, sym, ap}
+-- `choices::operation_at` meets its contract: each arm by its key, the last past the keys. Assumes nothing.
+use Prim.Native.Nat.{zero-le, _-_}
+use mathlib.Core.Path.{refl, sym, ap}
 use native.Mathlib.Omega.{arith}
-use Rattle.code.specs.Instructions.{operationAt}
+use Rattle.code.specs.Instructions.{operations, operationAt}
 use Rattle.code.proofs.Digits.{last-arm}
-use Rattle.code.proofs.instructions.operation_of.Statement.{statement}
-use Rattle.code.proofs.instructions.operation_of.Tie as tie
+use Rattle.code.proofs.Picks.{last-choice}
+use Rattle.code.proofs.choices.operation_at.Statement.{statement}
+use Rattle.code.proofs.choices.operation_at.Tie as tie
 
 returns : tie.Need-returns
 returns c = ap operationAt (sym (c .match .keys1))
@@ -54,12 +55,10 @@ returns-15 c = ap operationAt (sym (c .match .keys15))
 
 returns-16 : tie.Need-returns-16
 returns-16 c =
-    let n = c .before .args .word / 0o4000 % 16 in
-    let e : n ≡ 15 = omega (arith, last-arm n 0 15 zero-le (c .match .rest)) in
-    ap operationAt (sym e)
+    let n = c .before .args .n in last-choice operations _ (n - 2) 13 refl refl (omega (arith, last-arm n 0 15 zero-le (c .match .rest)))
 
-pub operation-of-spec : {M : Type 1} → statement M
-operation-of-spec =
+pub operation-at-spec : {M : Type 1} → statement M
+operation-at-spec =
     tie.close
     (tie.spec
     returns
