@@ -23,7 +23,7 @@ use Rattle.machine.specs.Step.{stepped, ending, running, ran}
 use Rattle.machine.specs.declared.record.Registers.{Registers}
 use Rattle.machine.specs.declared.replies.Reply.{Reply}
 use Rattle.apart.specs.Alike.{Alike, Apart}
-use Rattle.apart.specs.Apart.{run-apart}
+use Rattle.apart.proofs.Apart.{run-apart}
 
 -- register 1 of map 0 names the second page of memory, every other the first
 abbrev pages : ℕ → List ℕ

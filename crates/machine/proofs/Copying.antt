@@ -9,7 +9,7 @@ use mathlib.Core.Path.{_≡_, refl, sym, _∙_, ap}
 use mathlib.Core.List.{List}
 use lib.ListN.{length, length-set}
 use Rattle.maps.specs.Pages.{physicalPage, pageRegister, registerOf, indexIn, place}
-use Rattle.maps.specs.Laws.{place-below}
+use Rattle.maps.proofs.Laws.{place-below}
 use Rattle.maps.specs.declared.pages.Map.{Map}
 use Rattle.maps.specs.declared.pages.Purpose.{Purpose}
 use Rattle.maps.specs.declared.pages.Place.{Place}

@@ -16,7 +16,7 @@ use lib.ListN.{length}
 use borrow.Author.Tests.{ne-eqb}
 use Rattle.word.specs.Words.{bit}
 use Rattle.maps.specs.Pages.{place}
-use Rattle.maps.specs.Laws.{chain-direct}
+use Rattle.maps.proofs.Laws.{chain-direct}
 use Rattle.maps.specs.declared.pages.Map.{Map}
 use Rattle.maps.specs.declared.pages.Purpose.{Purpose}
 use Rattle.maps.specs.declared.pages.Place.{Place}

@@ -13,7 +13,7 @@ use mathlib.Core.List.{List}
 use lib.ListN.{length, getD, set}
 use Rattle.maps.specs.Pages.{registerOf, indexIn, isRegister, isOpen, presence, spot, place}
 use Rattle.maps.specs.Access.{fetched}
-use Rattle.maps.specs.Laws.{place-reached, place-below, open-both}
+use Rattle.maps.proofs.Laws.{place-reached, place-below, open-both}
 use Rattle.maps.specs.declared.pages.Map.{Map}
 use Rattle.maps.specs.declared.pages.Purpose.{Purpose}
 use Rattle.maps.specs.declared.pages.Place.{Place}

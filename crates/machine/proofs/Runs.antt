@@ -13,7 +13,7 @@ use lib.Dec.{ltb}
 use lib.ListN.{length}
 use borrow.Author.Tests.{ltb-true, ltb-false, lt-ltb}
 use Rattle.maps.specs.Pages.{physicalPage, registerOf, pageRegister, indexIn, isRegister, isOpen, presence}
-use Rattle.maps.specs.Laws.{open-by-page}
+use Rattle.maps.proofs.Laws.{open-by-page}
 use Rattle.maps.specs.declared.pages.Map.{Map}
 use Rattle.maps.specs.declared.pages.Purpose.{Purpose}
 use Rattle.maps.specs.declared.pages.Presence.{Presence}

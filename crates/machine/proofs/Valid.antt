@@ -24,7 +24,7 @@ use Rattle.word.specs.declared.orders.Order.{Order}
 use Rattle.maps.specs.Pages.{executeMap, data2Map, protecting, isRegister, isOpen, presence, place}
 use Rattle.maps.specs.Access.{fetched}
 use Rattle.maps.specs.Chains.{chain}
-use Rattle.maps.specs.Laws.{chain-address}
+use Rattle.maps.proofs.Laws.{chain-address}
 use Rattle.maps.specs.declared.pages.Map.{Map}
 use Rattle.maps.specs.declared.pages.Map.the-variants.{Execute}
 use Rattle.maps.specs.declared.pages.Purpose.{Purpose}

@@ -15,7 +15,7 @@ use Rattle.maps.specs.Pages.{mapNumber, isRegister, isOpen, presence, sp
 use Rattle.maps.specs.Access.{held, fetched, put}
 use Rattle.maps.specs.Chains.{chased, executeWord, chain}
 use Rattle.maps.specs.Bytes.{byteWord, isLowByte}
-use Rattle.maps.specs.Laws.{place-a, place-b}
+use Rattle.maps.proofs.Laws.{place-a, place-b}
 use Rattle.maps.specs.declared.pages.Map.{Map}
 use Rattle.maps.specs.declared.pages.Purpose.{Purpose}
 use Rattle.maps.specs.declared.pages.Place.{Place}

@@ -3,7 +3,7 @@ use mathlib.Core.List.{List}
 use Rattle.maps.specs.declared.pages.Purpose.{Purpose}
 use Rattle.maps.specs.declared.pages.Map.{Map}
 use Rattle.maps.specs.declared.pages.Place.{Place}
-use Rattle.maps.specs.Laws.{place-below}
+use Rattle.maps.proofs.Laws.{place-below}
 use Rattle.maps.specs.Pages.{place}
 use Rattle.machine.proofs.Ranges.{never}
 use Prim.Native.Nat.{ℕ}

@@ -4,7 +4,7 @@ use native.Mathlib.Omega.{arith}
 use Prim.Native.Nat.{_<_}
 use lib.ListN.{length}
 use mathlib.Core.Path.{refl, sym, _∙_}
-use Rattle.maps.specs.Laws.{place-below}
+use Rattle.maps.proofs.Laws.{place-below}
 use borrow.Author.Needs.{needs}
 use Rattle.machine.proofs.strings.store_byte.Statement.{statement}
 use Rattle.machine.proofs.strings.store_byte.Tie as tie

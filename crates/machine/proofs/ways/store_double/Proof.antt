@@ -1,6 +1,6 @@
 -- `ways::store_double` meets its contract: by the tests of both places, and what the two stores ensure. Assumes nothing.
 use mathlib.Core.Path.{refl, sym, _∙_}
-use Rattle.maps.specs.Laws.{place-below}
+use Rattle.maps.proofs.Laws.{place-below}
 use Rattle.machine.proofs.Operands.{stopping}
 use Rattle.machine.proofs.Doubles.{kept, ends-both}
 use borrow.Author.Needs.{needs}

@@ -5,7 +5,7 @@ use mathlib.Core.Path.{sym, _∙_}
 use lib.ListN.{length}
 use borrow.Author.Needs.{needs}
 use Rattle.maps.specs.Access.{fetched}
-use Rattle.maps.specs.Laws.{place-below}
+use Rattle.maps.proofs.Laws.{place-below}
 use Rattle.maps.proofs.access.read_word.Statement.{statement}
 use Rattle.maps.proofs.access.read_word.Tie as tie
 

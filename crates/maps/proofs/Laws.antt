@@ -23,7 +23,7 @@ use Rattle.maps.specs.Pages.{readProtected, protecting, physicalPage, pa
 use Rattle.maps.specs.Access.{held, fetched, put, numberFetched}
 use Rattle.maps.specs.Chains.{chased, executeWord, chain, numberChain}
 use Rattle.maps.specs.Open.{OpenTo, OpenToRead, OpenToStore, Agree}
-use Rattle.maps.specs.Behind.{never, in-memory, or-true, or-left, or-right, and-left, and-right, both-open, number-of, closed-by, reached-by, absent-by, whole, beyond, fifteen-register, fifteen-page, held-same, held-word, held-closed, held-absent, held-number, held-range, set-cases, set-either, chased-ends, chased-itself, chased-all}
+use Rattle.maps.proofs.Behind.{never, in-memory, or-true, or-left, or-right, and-left, and-right, both-open, number-of, closed-by, reached-by, absent-by, whole, beyond, fifteen-register, fifteen-page, held-same, held-word, held-closed, held-absent, held-number, held-range, set-cases, set-either, chased-ends, chased-itself, chased-all}
 use Rattle.maps.specs.declared.pages.Map.{Map}
 use Rattle.maps.specs.declared.pages.Purpose.{Purpose}
 use Rattle.maps.specs.declared.pages.Place.{Place}

@@ -16,7 +16,7 @@ use Rattle.maps.specs.Pages.{protecting, isOpen, presence, place}
 use Rattle.maps.specs.Access.{fetched, put}
 use Rattle.maps.specs.Chains.{chain}
 use Rattle.maps.specs.Open.{OpenToStore, Agree}
-use Rattle.maps.specs.Laws.{put-length, put-either, put-elsewhere, put-agree, place-open, fetched-agree, chain-agree}
+use Rattle.maps.proofs.Laws.{put-length, put-either, put-elsewhere, put-agree, place-open, fetched-agree, chain-agree}
 use Rattle.maps.specs.declared.pages.Purpose.{Purpose}
 use Rattle.maps.specs.declared.pages.Place.{Place}
 use Rattle.maps.specs.declared.pages.Presence.{Presence}
@@ -31,7 +31,7 @@ use Rattle.machine.specs.declared.record.Registers.{Registers}
 use Rattle.machine.specs.declared.replies.Reply.{Reply}
 use Rattle.machine.specs.declared.replies.Stepped.{Stepped}
 use Rattle.apart.specs.Alike.{Kept, Apart}
-use Rattle.apart.specs.Keeping.{step-stays}
+use Rattle.apart.proofs.Keeping.{step-stays}
 
 pub same-memories : (pages : List ℕ) (wmap : ℕ) (m m′ : List ℕ) → Agree pages wmap m m′ → Kept pages wmap m m′ m m′
 same-memories pages wmap m m′ agree =

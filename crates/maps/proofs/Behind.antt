@@ -1,5 +1,4 @@
--- Lemmas behind the proofs of `Laws` and of the functions. A reader of the rules may skip this file: no promise and no law
--- names anything of it. It stands here because a file of specs/ cannot cite one of proofs/.
+-- Lemmas behind the proofs of `Laws` and of the functions: no promise and no law names anything of it.
 --     never                               two different answers are not equal
 --     InMemory, in-memory                 how an access comes to a word of memory
 --     or-true to whole                    what the laws need of the two tests
