@@ -31,7 +31,7 @@ use Rattle.machine.specs.declared.record.Registers.{Registers}
 use Rattle.machine.specs.declared.replies.Reply.{Reply}
 use Rattle.machine.specs.declared.replies.Stepped.{Stepped}
 use Rattle.apart.specs.Alike.{Kept, Apart}
-use Rattle.apart.proofs.Keeping.{step-stays}
+use Rattle.machine.proofs.Valid.{step-stays}
 
 pub same-memories : (pages : List ℕ) (wmap : ℕ) (m m′ : List ℕ) → Agree pages wmap m m′ → Kept pages wmap m m′ m m′
 same-memories pages wmap m m′ agree =

@@ -1,11 +1,12 @@
--- A step keeps what a good call asks for: the length of memory, and a valid record.
+-- A step keeps what a good call asks for, the length of memory and a valid record; and where it replies 0 it keeps WMAP.
 --     Keeps                   a program whose every ending keeps what is asked of registers
 --     Carries, exec-holds     what stores keep, and endings keep, holds of the result
 --     left-length, exec-length, stepped-length    a program leaves as many words as it found
 --     moved-valid .. interrupted-valid            records that stay valid
---     way-valid .. step-act-valid                 the program of each rule, and of a step, keeps validity
+--     moved-sound .. step-act-sound               the program of each rule, and of a step, keeps validity and WMAP
 --     step-valid              so the registers after a step are valid
 --     good-stepped, good-kept the step of a good call, and the call that follows it
+--     step-stays              a step that replies 0 leaves WMAP as it was
 -- Assumes nothing.
 use Prim.Native.Nat.{ℕ, zero, suc, _<_, _+_, _*_, _/_, _%_}
 use native.Mathlib.Omega.{arith}
@@ -35,6 +36,7 @@ use Rattle.maps.specs.declared.chains.Chain.{Chain}
 use Rattle.code.specs.Codes.{privileged}
 use Rattle.code.specs.Instructions.{reading}
 use Rattle.machine.specs.Record.{withA, withB, withP, withTrap, withLights, inRegister, withRegister, inIndex, withIndex, valid, interrupted}
+use Rattle.machine.specs.Replies.{number}
 use Rattle.machine.specs.Acts.{Act, fin, stop, violate, load, save, follow, opened, present}
 use Rattle.machine.specs.Acts.{Result, done, violated, refused, onFetched, onChain, onPlace, onOpen, onPresence, exec, answer, left}
 use Rattle.machine.specs.Ways.{ahead, goOn, flagged, quotient, taken, wayAct}
@@ -180,7 +182,7 @@ stepped-length pages r m = go (goodCall (length pages) (length m) r)
     go true = left-length pages (stepAct r) r m
     go false = refl
 
--- Records that stay valid.
+-- Valid records.
 
 abbrev pub Valid : Registers → Type 0
 Valid r = valid r ≡ true
@@ -218,25 +220,6 @@ trapped-valid r q l h =
 pub address-fits : (a n : ℕ) → address a n < 0o100000
 address-fits a n = omega arith
 
-pub ahead-valid : (n : ℕ) (r : Registers) → Valid r → Valid (ahead n r)
-ahead-valid n r h = moved-valid r (address (r .p) n) (address-fits (r .p) n) h
-
-pub register-valid : (g : Register) (r : Registers) (v : ℕ) → Valid r → Valid (withRegister g r v)
-register-valid A r v h = h
-register-valid B r v h = h
-
-pub index-valid : (i : Index) (r : Registers) (v : ℕ) → Valid r → Valid (withIndex i r v)
-index-valid X r v h = h
-index-valid Y r v h = h
-
-pub quotient-valid : (q : Quotient) (r : Registers) → Valid r → Valid (quotient q r)
-quotient-valid (Quotient.Divided q remainder) r h = h
-quotient-valid Quotient.Overflow r h = h
-
-choice-valid : (b : Bool) (r s : Registers) → Valid r → Valid s → Valid (cond b r s)
-choice-valid true r s p q = p
-choice-valid false r s p q = q
-
 -- an interrupt ends protection
 unprotected : (w : ℕ) → protecting (data2Map w * 1024 + executeMap w * 32) ≡ false
 unprotected w = ne-eqb ((data2Map w * 1024 + executeMap w * 32) / 0o100000 % 2) 1 (λ e. omega arith)
@@ -244,247 +227,285 @@ unprotected w = ne-eqb ((data2Map w * 1024 + executeMap w * 32) / 0o100000 % 2) 
 pub interrupted-valid : (r : Registers) → Valid r → Valid (interrupted r)
 interrupted-valid r h = rw (parts r h .one, unprotected (r .wmap))
 
--- Programs that keep validity.
+-- Records that stay valid and keep WMAP.
+module _ (wmap : ℕ) where
+  abbrev pub Sound : Registers → Type 0
+  Sound r = Valid r × (r .wmap ≡ wmap)
 
-abbrev pub KeepsValid : Act → Type 0
-KeepsValid = Keeps Valid
+  -- P may be any address of 15 bits
+  moved-sound : (r : Registers) (q : ℕ) → q < 0o100000 → Sound r → Sound (withP r q)
+  moved-sound r q l h = (moved-valid r q l (h .0), h .1)
 
-either : (b : Bool) (x y : Act) → KeepsValid x → KeepsValid y → KeepsValid (cond b x y)
-either true x y p q = p
-either false x y p q = q
+  trapped-sound : (r : Registers) (q : ℕ) → q < 0o100000 → Sound r → Sound (withTrap (withP r q) 0)
+  trapped-sound r q l h = (trapped-valid r q l (h .0), h .1)
 
-go-on-valid : (a n : ℕ) → KeepsValid (goOn (address a n))
-go-on-valid a n s h = moved-valid s (address a n) (address-fits a n) h
+  ahead-sound : (n : ℕ) (r : Registers) → Sound r → Sound (ahead n r)
+  ahead-sound n r h = moved-sound r (address (r .p) n) (address-fits (r .p) n) h
 
-pub taken-valid : (t : Taking) (w n : ℕ) (s : Registers) → Valid s → Valid (taken t w n s)
-taken-valid And w n s h = ahead-valid n s h
-taken-valid Xor w n s h = ahead-valid n s h
-taken-valid Ior w n s h = ahead-valid n s h
-taken-valid (Add g) w n s h =
-    ahead-valid n (withRegister g (flagged (sum (inRegister g s) w) s) (sum (inRegister g s) w .word))
-    (register-valid g (flagged (sum (inRegister g s) w) s) (sum (inRegister g s) w .word) h)
-taken-valid (Compare g) w n s h = ahead-valid (n + weight (not (eqb (inRegister g s) w))) s h
-taken-valid (Load g) w n s h = ahead-valid n (withRegister g s w) (register-valid g s w h)
-taken-valid Multiply w n s h = ahead-valid n s h
-taken-valid Divide w n s h = ahead-valid n (quotient (divided (s .b) (s .a) w) s) (quotient-valid (divided (s .b) (s .a) w) s h)
-taken-valid (LoadIndex i) w n s h = ahead-valid n (withIndex i s w) (index-valid i s w h)
-taken-valid (AddIndex i) w n s h =
-    ahead-valid n (withIndex i (flagged (sum (inIndex i s) w) s) (sum (inIndex i s) w .word))
-    (index-valid i (flagged (sum (inIndex i s) w) s) (sum (inIndex i s) w .word) h)
+  register-sound : (g : Register) (r : Registers) (v : ℕ) → Sound r → Sound (withRegister g r v)
+  register-sound A r v h = h
+  register-sound B r v h = h
 
-pub way-valid : (way : Way) (r : Registers) (m n : ℕ) → m < 0o100000 → KeepsValid (wayAct way r m n)
-way-valid (Take t map x) r m n l = λ w. taken-valid t w n
-way-valid (Put s map x) r m n l = go-on-valid (r .p) n
-way-valid LoadDouble r m n l = λ v w s. ahead-valid n (withB (withA s v) w)
-way-valid StoreDouble r m n l = go-on-valid (r .p) n
-way-valid StepAndSkip r m n l = λ w. go-on-valid (r .p) (n + weight (eqb (incremented w .word) 0))
-way-valid Jump r m n l = λ s. moved-valid s m l
-way-valid JumpSaving r m n l = go-on-valid m 1
+  index-sound : (i : Index) (r : Registers) (v : ℕ) → Sound r → Sound (withIndex i r v)
+  index-sound X r v h = h
+  index-sound Y r v h = h
 
--- shift/rotate, alter/skip, long shifts, the index registers
+  quotient-sound : (q : Quotient) (r : Registers) → Sound r → Sound (quotient q r)
+  quotient-sound (Quotient.Divided q remainder) r h = h
+  quotient-sound Quotient.Overflow r h = h
 
-pub shift-valid : (i : ShiftRotate) → KeepsValid (fin (shiftRotated i))
-unfolding shiftRotated
-shift-valid i s h = ahead-valid _ (withRegister (i .register) s _) (register-valid (i .register) s _ h)
+  choice-sound : (b : Bool) (r s : Registers) → Sound r → Sound s → Sound (cond b r s)
+  choice-sound true r s p q = p
+  choice-sound false r s p q = q
 
-pub alter-valid : (i : AlterSkip) → KeepsValid (fin (alterSkipped i))
-unfolding alterSkipped alterEnded
-alter-valid i s h = ahead-valid _ (withRegister (i .register) _ _) (register-valid (i .register) _ _ (choice-valid (i .ina) _ _ h h))
+  -- Programs that keep both.
 
-pub long-valid : (kind : LongShift) (n : ℕ) → KeepsValid (fin (longRotated kind n))
-unfolding longRotated
-long-valid kind n s h = ahead-valid 1 s h
+  abbrev KeepsSound : Act → Type 0
+  KeepsSound = Keeps Sound
 
-to-index-valid : (g : Register) (i : Index) → KeepsValid (fin (copiedToIndex g i))
-to-index-valid g i s h = ahead-valid 1 (withIndex i s (inRegister g s)) (index-valid i s (inRegister g s) h)
+  either : (b : Bool) (x y : Act) → KeepsSound x → KeepsSound y → KeepsSound (cond b x y)
+  either true x y p q = p
+  either false x y p q = q
 
-from-index-valid : (g : Register) (i : Index) → KeepsValid (fin (copiedFromIndex g i))
-from-index-valid g i s h = ahead-valid 1 (withRegister g s (inIndex i s)) (register-valid g s (inIndex i s) h)
+  go-on-sound : (a n : ℕ) → KeepsSound (goOn (address a n))
+  go-on-sound a n s h = moved-sound s (address a n) (address-fits a n) h
 
-exchanged-valid : (g : Register) (i : Index) → KeepsValid (fin (exchanged g i))
-exchanged-valid g i s h =
-    ahead-valid 1 (withIndex i (withRegister g s (inIndex i s)) (inRegister g s))
-    (index-valid i (withRegister g s (inIndex i s)) (inRegister g s) (register-valid g s (inIndex i s) h))
+  taken-sound : (t : Taking) (w n : ℕ) (s : Registers) → Sound s → Sound (taken t w n s)
+  taken-sound And w n s h = ahead-sound n s h
+  taken-sound Xor w n s h = ahead-sound n s h
+  taken-sound Ior w n s h = ahead-sound n s h
+  taken-sound (Add g) w n s h =
+      ahead-sound n (withRegister g (flagged (sum (inRegister g s) w) s) (sum (inRegister g s) w .word))
+      (register-sound g (flagged (sum (inRegister g s) w) s) (sum (inRegister g s) w .word) h)
+  taken-sound (Compare g) w n s h = ahead-sound (n + weight (not (eqb (inRegister g s) w))) s h
+  taken-sound (Load g) w n s h = ahead-sound n (withRegister g s w) (register-sound g s w h)
+  taken-sound Multiply w n s h = ahead-sound n s h
+  taken-sound Divide w n s h = ahead-sound n (quotient (divided (s .b) (s .a) w) s) (quotient-sound (divided (s .b) (s .a) w) s h)
+  taken-sound (LoadIndex i) w n s h = ahead-sound n (withIndex i s w) (index-sound i s w h)
+  taken-sound (AddIndex i) w n s h =
+      ahead-sound n (withIndex i (flagged (sum (inIndex i s) w) s) (sum (inIndex i s) w .word))
+      (index-sound i (flagged (sum (inIndex i s) w) s) (sum (inIndex i s) w .word) h)
 
-stepped-index-valid : (i : Index) (w : ℕ) → KeepsValid (fin (indexStepped i w))
-stepped-index-valid i w s h = ahead-valid (1 + weight (eqb w 0)) (withIndex i s w) (index-valid i s w h)
+  way-sound : (way : Way) (r : Registers) (m n : ℕ) → m < 0o100000 → KeepsSound (wayAct way r m n)
+  way-sound (Take t map x) r m n l = λ w. taken-sound t w n
+  way-sound (Put s map x) r m n l = go-on-sound (r .p) n
+  way-sound LoadDouble r m n l = λ v w s. ahead-sound n (withB (withA s v) w)
+  way-sound StoreDouble r m n l = go-on-sound (r .p) n
+  way-sound StepAndSkip r m n l = λ w. go-on-sound (r .p) (n + weight (eqb (incremented w .word) 0))
+  way-sound Jump r m n l = λ s. moved-sound s m l
+  way-sound JumpSaving r m n l = go-on-sound m 1
 
--- I/O
+  -- shift/rotate, alter/skip, long shifts, the index registers
 
-panel-valid : (io : IoOperation) (bit11 bit9 : Bool) → KeepsValid (panelAct io bit11 bit9)
-unfolding panelAct
-panel-valid Hlt bit11 bit9 = tt
-panel-valid Flag bit11 bit9 = ahead-valid 1
-panel-valid Sfc bit11 bit9 = λ s. ahead-valid (1 + weight (not (s .o))) s
-panel-valid Sfs bit11 bit9 = λ s. ahead-valid (1 + weight (s .o)) s
-panel-valid Mia bit11 bit9 = tt
-panel-valid Lia bit11 bit9 =
-    either bit9 (stop Reply.InputOutput) (fin (λ s. ahead 1 (withRegister (picked bit11) s (s .switches * 256)))) tt
-    (λ s h. ahead-valid 1 (withRegister (picked bit11) s (s .switches * 256)) (register-valid (picked bit11) s (s .switches * 256) h))
-panel-valid Ota bit11 bit9 =
-    either bit9 (stop Reply.InputOutput) (fin (λ s. ahead 1 (withLights s (inRegister (picked bit11) s % 256)))) tt (ahead-valid 1)
-panel-valid Control bit11 bit9 = tt
+  shift-sound : (i : ShiftRotate) → KeepsSound (fin (shiftRotated i))
+  unfolding shiftRotated
+  shift-sound i s h = ahead-sound _ (withRegister (i .register) s _) (register-sound (i .register) s _ h)
 
-pub io-valid : (io : IoOperation) (bit11 bit9 : Bool) (select : ℕ) (r : Registers) → KeepsValid (ioAct io bit11 bit9 select r)
-unfolding ioAct
-io-valid io bit11 bit9 select r =
-    either (protecting (r .wmap) && (isHalt io || not (eqb select 1))) violate _ tt
-    (either (eqb select 1) (panelAct io bit11 bit9) (stop Reply.InputOutput) (panel-valid io bit11 bit9) tt)
+  alter-sound : (i : AlterSkip) → KeepsSound (fin (alterSkipped i))
+  unfolding alterSkipped alterEnded
+  alter-sound i s h = ahead-sound _ (withRegister (i .register) _ _) (register-sound (i .register) _ _ (choice-sound (i .ina) _ _ h h))
 
--- words and bytes, and strings of them
+  long-sound : (kind : LongShift) (n : ℕ) → KeepsSound (fin (longRotated kind n))
+  unfolding longRotated
+  long-sound kind n s h = ahead-sound 1 s h
 
-opens-valid : (u : Element) (map : Map) (purpose : Purpose) (at n : ℕ) (k : Act) → KeepsValid k → KeepsValid (opensAll u map purpose at n k)
-unfolding opensAll
-opens-valid u map purpose at zero k h = h
-opens-valid u map purpose at (suc n) k h = opens-valid u map purpose (along u at 1) n k h
+  to-index-sound : (g : Register) (i : Index) → KeepsSound (fin (copiedToIndex g i))
+  to-index-sound g i s h = ahead-sound 1 (withIndex i s (inRegister g s)) (index-sound i s (inRegister g s) h)
 
-presents-valid : (u : Element) (map : Map) (at n : ℕ) (k : Act) → KeepsValid k → KeepsValid (presentAll u map at n k)
-unfolding presentAll
-presents-valid u map at zero k h = h
-presents-valid u map at (suc n) k h = presents-valid u map (along u at 1) n k h
+  from-index-sound : (g : Register) (i : Index) → KeepsSound (fin (copiedFromIndex g i))
+  from-index-sound g i s h = ahead-sound 1 (withRegister g s (inIndex i s)) (register-sound g s (inIndex i s) h)
 
-saving-valid : (u : Element) (map : Map) (at v : ℕ) (k : Act) → KeepsValid k → KeepsValid (saving u map at v k)
-saving-valid Word map at v k h = h
-saving-valid Byte map at v k h = λ w. h
+  exchanged-sound : (g : Register) (i : Index) → KeepsSound (fin (exchanged g i))
+  exchanged-sound g i s h =
+      ahead-sound 1 (withIndex i (withRegister g s (inIndex i s)) (inRegister g s))
+      (index-sound i (withRegister g s (inIndex i s)) (inRegister g s) (register-sound g s (inIndex i s) h))
 
-moving-valid : (u : Element) (from to : Map) (s d n : ℕ) (k : Act) → KeepsValid k → KeepsValid (moving u from to s d n k)
-unfolding moving
-moving-valid u from to s d zero k h = h
-moving-valid u from to s d (suc n) k h =
-    λ w. saving-valid u to d (valueOf u s w) (moving u from to (along u s 1) (along u d 1) n k)
-    (moving-valid u from to (along u s 1) (along u d 1) n k h)
+  stepped-index-sound : (i : Index) (w : ℕ) → KeepsSound (fin (indexStepped i w))
+  stepped-index-sound i w s h = ahead-sound (1 + weight (eqb w 0)) (withIndex i s w) (index-sound i s w h)
 
-pub moved-string-valid : (u : Element) (from to : Map) (s d n : ℕ) (k : Act) → KeepsValid k → KeepsValid (moved u from to s d n k)
-moved-string-valid u from to s d n k h =
-    either (touches u from s n || touches u to d n) (stop Reply.InRegisters) _ tt
-    (opens-valid u from Purpose.Read s n _ (opens-valid u to (purposeOf u) d n _
-    (presents-valid u from s n _ (presents-valid u to d n _ (moving-valid u from to s d n k h)))))
+  -- I/O
 
-loaded-valid : (u : Element) (at : ℕ) (k : ℕ → Act) → ((w : ℕ) → KeepsValid (k w)) → KeepsValid (loadElement u at k)
-loaded-valid u at k h = either (isRegister Execute (wordAt u at)) (stop Reply.InRegisters) (load Execute (wordAt u at) k) tt h
+  panel-sound : (io : IoOperation) (bit11 bit9 : Bool) → KeepsSound (panelAct io bit11 bit9)
+  unfolding panelAct
+  panel-sound Hlt bit11 bit9 = tt
+  panel-sound Flag bit11 bit9 = ahead-sound 1
+  panel-sound Sfc bit11 bit9 = λ s. ahead-sound (1 + weight (not (s .o))) s
+  panel-sound Sfs bit11 bit9 = λ s. ahead-sound (1 + weight (s .o)) s
+  panel-sound Mia bit11 bit9 = tt
+  panel-sound Lia bit11 bit9 =
+      either bit9 (stop Reply.InputOutput) (fin (λ s. ahead 1 (withRegister (picked bit11) s (s .switches * 256)))) tt
+      (λ s h. ahead-sound 1 (withRegister (picked bit11) s (s .switches * 256)) (register-sound (picked bit11) s (s .switches * 256) h))
+  panel-sound Ota bit11 bit9 =
+      either bit9 (stop Reply.InputOutput) (fin (λ s. ahead 1 (withLights s (inRegister (picked bit11) s % 256)))) tt (ahead-sound 1)
+  panel-sound Control bit11 bit9 = tt
 
-ordered-valid : (o : Order) (x y z : Act) → KeepsValid x → KeepsValid y → KeepsValid z → KeepsValid (onOrder o x y z)
-ordered-valid Order.Smaller x y z p q h = p
-ordered-valid Order.Equal x y z p q h = q
-ordered-valid Order.Greater x y z p q h = h
+  io-sound : (io : IoOperation) (bit11 bit9 : Bool) (select : ℕ) (r : Registers) → KeepsSound (ioAct io bit11 bit9 select r)
+  unfolding ioAct
+  io-sound io bit11 bit9 select r =
+      either (protecting (r .wmap) && (isHalt io || not (eqb select 1))) violate _ tt
+      (either (eqb select 1) (panelAct io bit11 bit9) (stop Reply.InputOutput) (panel-sound io bit11 bit9) tt)
 
-comparing-valid : (u : Element) (end s d n : ℕ) → KeepsValid (comparing u end s d n)
-unfolding comparing
-comparing-valid u end s d zero = ahead-valid 3
-comparing-valid u end s d (suc n) =
-    loaded-valid u s _ (λ v. loaded-valid u d _ (λ w. ordered-valid (orderOf u (valueOf u s v) (valueOf u d w)) _ _ _
-    (ahead-valid 4) (comparing-valid u end (along u s 1) (along u d 1) n) (ahead-valid 5)))
+  -- words and bytes, and strings of them
 
-byte-loaded-valid : (r : Registers) → KeepsValid (byteLoaded r)
-byte-loaded-valid r = loaded-valid Byte (r .b) _ (λ w. ahead-valid 1)
+  opens-sound : (u : Element) (map : Map) (purpose : Purpose) (at n : ℕ) (k : Act) → KeepsSound k → KeepsSound (opensAll u map purpose at n k)
+  unfolding opensAll
+  opens-sound u map purpose at zero k h = h
+  opens-sound u map purpose at (suc n) k h = opens-sound u map purpose (along u at 1) n k h
 
-byte-stored-valid : (r : Registers) → KeepsValid (byteStored r)
-byte-stored-valid r =
-    either (isRegister Execute (wordAt Byte (r .b))) (stop Reply.InRegisters) _ tt (λ w. ahead-valid 1)
+  presents-sound : (u : Element) (map : Map) (at n : ℕ) (k : Act) → KeepsSound k → KeepsSound (presentAll u map at n k)
+  unfolding presentAll
+  presents-sound u map at zero k h = h
+  presents-sound u map at (suc n) k h = presents-sound u map (along u at 1) n k h
 
-counted-valid : (r : Registers) (k : ℕ → Act) → ((c : ℕ) → KeepsValid (k c)) → KeepsValid (counted r k)
-counted-valid r k h = λ w at l c. either (noneToDo c) (goOn (address (r .p) 3)) (k c) (go-on-valid (r .p) 3) (h c)
+  saving-sound : (u : Element) (map : Map) (at v : ℕ) (k : Act) → KeepsSound k → KeepsSound (saving u map at v k)
+  saving-sound Word map at v k h = h
+  saving-sound Byte map at v k h = λ w. h
 
-move-valid : (u : Element) (r : Registers) → KeepsValid (moveAct u r)
-move-valid u r = counted-valid r _ (λ c. moved-string-valid u Execute Execute (r .a) (r .b) c _ (ahead-valid 3))
+  moving-sound : (u : Element) (from to : Map) (s d n : ℕ) (k : Act) → KeepsSound k → KeepsSound (moving u from to s d n k)
+  unfolding moving
+  moving-sound u from to s d zero k h = h
+  moving-sound u from to s d (suc n) k h =
+      λ w. saving-sound u to d (valueOf u s w) (moving u from to (along u s 1) (along u d 1) n k)
+      (moving-sound u from to (along u s 1) (along u d 1) n k h)
 
-compare-valid : (u : Element) (r : Registers) → KeepsValid (compareAct u r)
-compare-valid u r = counted-valid r _ (λ c. comparing-valid u (along u (r .b) c) (along u (r .a) 0) (along u (r .b) 0) c)
+  moved-string-sound : (u : Element) (from to : Map) (s d n : ℕ) (k : Act) → KeepsSound k → KeepsSound (moved u from to s d n k)
+  moved-string-sound u from to s d n k h =
+      either (touches u from s n || touches u to d n) (stop Reply.InRegisters) _ tt
+      (opens-sound u from Purpose.Read s n _ (opens-sound u to (purposeOf u) d n _
+      (presents-sound u from s n _ (presents-sound u to d n _ (moving-sound u from to s d n k h)))))
 
-masked-valid : (x : Bits) (r : Registers) (mask w at : ℕ) → KeepsValid (masked x r mask w at)
-masked-valid Sbs r mask w at = go-on-valid (r .p) 3
-masked-valid Cbs r mask w at = go-on-valid (r .p) 3
-masked-valid Tbs r mask w at = go-on-valid (r .p) (3 + weight (not (everyBitSet mask w)))
+  loaded-sound : (u : Element) (at : ℕ) (k : ℕ → Act) → ((w : ℕ) → KeepsSound (k w)) → KeepsSound (loadElement u at k)
+  loaded-sound u at k h = either (isRegister Execute (wordAt u at)) (stop Reply.InRegisters) (load Execute (wordAt u at) k) tt h
 
-mask-valid : (x : Bits) (r : Registers) → KeepsValid (maskAct x r)
-mask-valid x r = λ _ m _ _ at _ mask w. masked-valid x r mask w at
+  ordered-sound : (o : Order) (x y z : Act) → KeepsSound x → KeepsSound y → KeepsSound z → KeepsSound (onOrder o x y z)
+  ordered-sound Order.Smaller x y z p q h = p
+  ordered-sound Order.Equal x y z p q h = q
+  ordered-sound Order.Greater x y z p q h = h
 
--- the rules
+  comparing-sound : (u : Element) (end s d n : ℕ) → KeepsSound (comparing u end s d n)
+  unfolding comparing
+  comparing-sound u end s d zero = ahead-sound 3
+  comparing-sound u end s d (suc n) =
+      loaded-sound u s _ (λ v. loaded-sound u d _ (λ w. ordered-sound (orderOf u (valueOf u s v) (valueOf u d w)) _ _ _
+      (ahead-sound 4) (comparing-sound u end (along u s 1) (along u d 1) n) (ahead-sound 5)))
 
-operand-valid : (way : Way) (r : Registers) → KeepsValid (atOperand way r)
-operand-valid way r = λ w m l. way-valid way r m 2 l
+  byte-loaded-sound : (r : Registers) → KeepsSound (byteLoaded r)
+  byte-loaded-sound r = loaded-sound Byte (r .b) _ (λ w. ahead-sound 1)
 
-transfer-valid : (x : Transfer) (g : Register) (i : Index) (r : Registers) → KeepsValid (transferAct x g i r)
-transfer-valid Sax g i r = operand-valid (Put (Source.Register g) Execute (Indexed i)) r
-transfer-valid Cax g i r = to-index-valid g i
-transfer-valid Lax g i r = operand-valid (Take (Load g) Execute (Indexed i)) r
-transfer-valid Cxa g i r = from-index-valid g i
-transfer-valid Xax g i r = exchanged-valid g i
+  byte-stored-sound : (r : Registers) → KeepsSound (byteStored r)
+  byte-stored-sound r =
+      either (isRegister Execute (wordAt Byte (r .b))) (stop Reply.InRegisters) _ tt (λ w. ahead-sound 1)
 
-indexing-valid : (x : Indexing) (i : Index) (r : Registers) → KeepsValid (indexingAct x i r)
-indexing-valid Stx i r = operand-valid (Put (Source.Index i) Execute Plain) r
-indexing-valid Ldx i r = operand-valid (Take (LoadIndex i) Execute Plain) r
-indexing-valid Adx i r = operand-valid (Take (AddIndex i) Execute Plain) r
-indexing-valid Isx i r = stepped-index-valid i (incremented (inIndex i r) .word)
-indexing-valid Dsx i r = stepped-index-valid i (decremented (inIndex i r) .word)
+  counted-sound : (r : Registers) (k : ℕ → Act) → ((c : ℕ) → KeepsSound (k c)) → KeepsSound (counted r k)
+  counted-sound r k h = λ w at l c. either (noneToDo c) (goOn (address (r .p) 3)) (k c) (go-on-sound (r .p) 3) (h c)
 
-bytes-valid : (x : Bytes) (r : Registers) → KeepsValid (bytesAct x r)
-bytes-valid Lbt r = byte-loaded-valid r
-bytes-valid Sbt r = byte-stored-valid r
-bytes-valid Mbt r = move-valid Byte r
-bytes-valid Cbt r = compare-valid Byte r
+  move-sound : (u : Element) (r : Registers) → KeepsSound (moveAct u r)
+  move-sound u r = counted-sound r _ (λ c. moved-string-sound u Execute Execute (r .a) (r .b) c _ (ahead-sound 3))
 
-words-valid : (x : Words) (r : Registers) → KeepsValid (wordsAct x r)
-words-valid Cmw r = compare-valid Word r
-words-valid Mvw r = move-valid Word r
+  compare-sound : (u : Element) (r : Registers) → KeepsSound (compareAct u r)
+  compare-sound u r = counted-sound r _ (λ c. comparing-sound u (along u (r .b) c) (along u (r .a) 0) (along u (r .b) 0) c)
 
-extended-valid : (x : Extended) (r : Registers) → KeepsValid (extendedAct x r)
-extended-valid (Extended.Cross x g d) r = operand-valid (crossWay x g d) r
-extended-valid (Extended.Transfer x g i) r = transfer-valid x g i r
-extended-valid (Extended.Indexing x i) r = indexing-valid x i r
-extended-valid (Extended.Arithmetic x) r = operand-valid (arithmeticWay x) r
-extended-valid (Extended.Bytes x) r = bytes-valid x r
-extended-valid (Extended.Bits x) r = mask-valid x r
-extended-valid (Extended.Words x) r = words-valid x r
+  masked-sound : (x : Bits) (r : Registers) (mask w at : ℕ) → KeepsSound (masked x r mask w at)
+  masked-sound Sbs r mask w at = go-on-sound (r .p) 3
+  masked-sound Cbs r mask w at = go-on-sound (r .p) 3
+  masked-sound Tbs r mask w at = go-on-sound (r .p) (3 + weight (not (everyBitSet mask w)))
 
-pub rule-valid : (i : Instruction) (r : Registers) → KeepsValid (rule i r)
-rule-valid (Instruction.MemoryReference operation indirect current offset) r = λ m l. way-valid (memoryWay operation) r m 1 l
-rule-valid (Instruction.ShiftRotate i) r = shift-valid i
-rule-valid (Instruction.AlterSkip i) r = alter-valid i
-rule-valid (Instruction.InputOutput io bit11 bit9 select) r = io-valid io bit11 bit9 select r
-rule-valid (Instruction.LongShift kind n) r = long-valid kind n
-rule-valid (Instruction.Extended x) r = extended-valid x r
-rule-valid (Instruction.NotBuilt w) r = either (protecting (r .wmap) && privileged w) violate (stop Reply.NotBuilt) tt tt
+  mask-sound : (x : Bits) (r : Registers) → KeepsSound (maskAct x r)
+  mask-sound x r = λ _ m _ _ at _ mask w. masked-sound x r mask w at
 
-trap-way-valid : (way : Way) (r : Registers) (word : ℕ) → KeepsValid (trapWay way r word)
-trap-way-valid (Take t map x) r word = tt
-trap-way-valid (Put s map x) r word = tt
-trap-way-valid LoadDouble r word = tt
-trap-way-valid StoreDouble r word = tt
-trap-way-valid StepAndSkip r word = tt
-trap-way-valid Jump r word = λ m l s. trapped-valid s m l
-trap-way-valid JumpSaving r word = λ m l s. trapped-valid s (address m 1) (address-fits m 1)
+  -- the rules
 
-pub trap-valid : (i : Instruction) (r : Registers) → KeepsValid (trapRule i r)
-trap-valid (Instruction.MemoryReference operation indirect current offset) r = trap-way-valid (memoryWay operation) r (memoryWord indirect current offset 0)
-trap-valid (Instruction.ShiftRotate i) r = tt
-trap-valid (Instruction.AlterSkip i) r = tt
-trap-valid (Instruction.InputOutput io bit11 bit9 select) r = tt
-trap-valid (Instruction.LongShift kind n) r = tt
-trap-valid (Instruction.Extended x) r = tt
-trap-valid (Instruction.NotBuilt w) r = tt
+  operand-sound : (way : Way) (r : Registers) → KeepsSound (atOperand way r)
+  operand-sound way r = λ w m l. way-sound way r m 2 l
 
-pub step-act-valid : (r : Registers) → KeepsValid (stepAct r)
-step-act-valid r =
-    either (eqb (r .trap) 0) (load Execute (r .p) (λ w. rule (reading w) r)) (load Execute (r .trap) (λ w. trapRule (reading w) r))
-    (λ w. rule-valid (reading w) r) (λ w. trap-valid (reading w) r)
+  transfer-sound : (x : Transfer) (g : Register) (i : Index) (r : Registers) → KeepsSound (transferAct x g i r)
+  transfer-sound Sax g i r = operand-sound (Put (Source.Register g) Execute (Indexed i)) r
+  transfer-sound Cax g i r = to-index-sound g i
+  transfer-sound Lax g i r = operand-sound (Take (Load g) Execute (Indexed i)) r
+  transfer-sound Cxa g i r = from-index-sound g i
+  transfer-sound Xax g i r = exchanged-sound g i
+
+  indexing-sound : (x : Indexing) (i : Index) (r : Registers) → KeepsSound (indexingAct x i r)
+  indexing-sound Stx i r = operand-sound (Put (Source.Index i) Execute Plain) r
+  indexing-sound Ldx i r = operand-sound (Take (LoadIndex i) Execute Plain) r
+  indexing-sound Adx i r = operand-sound (Take (AddIndex i) Execute Plain) r
+  indexing-sound Isx i r = stepped-index-sound i (incremented (inIndex i r) .word)
+  indexing-sound Dsx i r = stepped-index-sound i (decremented (inIndex i r) .word)
+
+  bytes-sound : (x : Bytes) (r : Registers) → KeepsSound (bytesAct x r)
+  bytes-sound Lbt r = byte-loaded-sound r
+  bytes-sound Sbt r = byte-stored-sound r
+  bytes-sound Mbt r = move-sound Byte r
+  bytes-sound Cbt r = compare-sound Byte r
+
+  words-sound : (x : Words) (r : Registers) → KeepsSound (wordsAct x r)
+  words-sound Cmw r = compare-sound Word r
+  words-sound Mvw r = move-sound Word r
+
+  extended-sound : (x : Extended) (r : Registers) → KeepsSound (extendedAct x r)
+  extended-sound (Extended.Cross x g d) r = operand-sound (crossWay x g d) r
+  extended-sound (Extended.Transfer x g i) r = transfer-sound x g i r
+  extended-sound (Extended.Indexing x i) r = indexing-sound x i r
+  extended-sound (Extended.Arithmetic x) r = operand-sound (arithmeticWay x) r
+  extended-sound (Extended.Bytes x) r = bytes-sound x r
+  extended-sound (Extended.Bits x) r = mask-sound x r
+  extended-sound (Extended.Words x) r = words-sound x r
+
+  rule-sound : (i : Instruction) (r : Registers) → KeepsSound (rule i r)
+  rule-sound (Instruction.MemoryReference operation indirect current offset) r = λ m l. way-sound (memoryWay operation) r m 1 l
+  rule-sound (Instruction.ShiftRotate i) r = shift-sound i
+  rule-sound (Instruction.AlterSkip i) r = alter-sound i
+  rule-sound (Instruction.InputOutput io bit11 bit9 select) r = io-sound io bit11 bit9 select r
+  rule-sound (Instruction.LongShift kind n) r = long-sound kind n
+  rule-sound (Instruction.Extended x) r = extended-sound x r
+  rule-sound (Instruction.NotBuilt w) r = either (protecting (r .wmap) && privileged w) violate (stop Reply.NotBuilt) tt tt
+
+  trap-way-sound : (way : Way) (r : Registers) (word : ℕ) → KeepsSound (trapWay way r word)
+  trap-way-sound (Take t map x) r word = tt
+  trap-way-sound (Put s map x) r word = tt
+  trap-way-sound LoadDouble r word = tt
+  trap-way-sound StoreDouble r word = tt
+  trap-way-sound StepAndSkip r word = tt
+  trap-way-sound Jump r word = λ m l s. trapped-sound s m l
+  trap-way-sound JumpSaving r word = λ m l s. trapped-sound s (address m 1) (address-fits m 1)
+
+  trap-sound : (i : Instruction) (r : Registers) → KeepsSound (trapRule i r)
+  trap-sound (Instruction.MemoryReference operation indirect current offset) r = trap-way-sound (memoryWay operation) r (memoryWord indirect current offset 0)
+  trap-sound (Instruction.ShiftRotate i) r = tt
+  trap-sound (Instruction.AlterSkip i) r = tt
+  trap-sound (Instruction.InputOutput io bit11 bit9 select) r = tt
+  trap-sound (Instruction.LongShift kind n) r = tt
+  trap-sound (Instruction.Extended x) r = tt
+  trap-sound (Instruction.NotBuilt w) r = tt
+
+  pub step-act-sound : (r : Registers) → KeepsSound (stepAct r)
+  step-act-sound r =
+      either (eqb (r .trap) 0) (load Execute (r .p) (λ w. rule (reading w) r)) (load Execute (r .trap) (λ w. trapRule (reading w) r))
+      (λ w. rule-sound (reading w) r) (λ w. trap-sound (reading w) r)
 
 -- A step.
 
-carries-valid : (r : Registers) → Valid r → Carries Valid (λ _. Unit) (λ x. Valid (answer r x .registers))
-carries-valid r h =
+-- a step's registers are valid, and where it replies 0 WMAP is as it was
+abbrev After : Registers → Result → Type 0
+After r x = Valid (answer r x .registers) × (eqb (number (answer r x .reply)) 0 ≡ true → answer r x .registers .wmap ≡ r .wmap)
+
+carries-sound : (r : Registers) → Valid r → Carries (Sound (r .wmap)) (λ _. Unit) (After r)
+carries-sound r h =
     record {
       in-a = λ s v e. e;
       in-b = λ s v e. e;
       in-memory = λ m i v _. tt;
-      completion = λ s m e _. e;
-      violation = interrupted-valid r h;
-      refusal = λ reply. h;
+      completion = λ s m e _. (e .0, λ q. e .1);
+      violation = (interrupted-valid r h, λ q. never (sym q));
+      refusal = λ reply. (h, λ q. refl);
     }
+
+step-sound : (pages : List ℕ) (r : Registers) (m : List ℕ) → valid r ≡ true → After r (exec pages (stepAct r) r m)
+step-sound pages r m h = exec-holds (carries-sound r h) pages (stepAct r) (step-act-sound (r .wmap) r) r m (h, refl) tt
 
 pub step-valid : (pages : List ℕ) (r : Registers) (m : List ℕ) → valid r ≡ true
     → valid (answer r (exec pages (stepAct r) r m) .registers) ≡ true
-step-valid pages r m h = exec-holds (carries-valid r h) pages (stepAct r) (step-act-valid r) r m h tt
+step-valid pages r m h = step-sound pages r m h .0
 
 -- A good call.
 
@@ -505,3 +526,14 @@ pub good-kept : (pages : List ℕ) (r : Registers) (m : List ℕ) → goodCall (
 good-kept pages r m h =
     let b = both (eqb (length pages) 1024 && wholePages (length m)) (valid r) h in
     rw (good-stepped pages r m h, left-length pages (stepAct r) r m, b .0) (step-valid pages r m (b .1))
+
+pub step-stays : (pages : List ℕ) (r : Registers) (m : List ℕ) → eqb (number (answer r (stepped pages r m) .reply)) 0 ≡ true
+    → answer r (stepped pages r m) .registers .wmap ≡ r .wmap
+unfolding stepped
+step-stays pages r m = go (goodCall (length pages) (length m) r) refl
+  where
+    go : (b : Bool) → goodCall (length pages) (length m) r ≡ b
+        → eqb (number (answer r (cond b (exec pages (stepAct r) r m) (refused Reply.BadCall)) .reply)) 0 ≡ true
+        → answer r (cond b (exec pages (stepAct r) r m) (refused Reply.BadCall)) .registers .wmap ≡ r .wmap
+    go true e = step-sound pages r m (good-valid (length pages) (length m) r e) .1
+    go false e = λ q. refl
