@@ -1,7 +1,9 @@
 -- How a program goes on past its reading parts, and past a store that is its last act: what the proofs of the functions cite.
 --     had-value, had-stop    `exec` of a part, by what a function gave
 --     direct                 an address word with bit 15 clear is the address
---     by-next, by-chain, by-word    a way at the address that the next word, a chain or a word leads to
+--     Starts, by-next, by-word      the address word of an instruction: its next word, or the word given
+--     Leads, by-chain, by-itself    where that leads: by a chain, or it is the address
+--     arrives                       so an instruction goes its way there
 --     stopping               trouble leaves the registers that its answer has, and the memory
 --     saved                  a store, by its place
 --     ends-last              what follows a last store may come before it, where the store does not see it
@@ -15,15 +17,16 @@ use mathlib.Core.List.{List}
 use lib.ListN.{length}
 use borrow.Author.Tests.{ne-eqb}
 use Rattle.word.specs.Words.{bit}
+use Rattle.word.specs.Sums.{address}
 use Rattle.maps.specs.Pages.{place}
 use Rattle.maps.proofs.Laws.{chain-direct}
 use Rattle.maps.specs.declared.pages.Map.{Map}
 use Rattle.maps.specs.declared.pages.Purpose.{Purpose}
 use Rattle.maps.specs.declared.pages.Place.{Place}
 use Rattle.machine.specs.Record.{withA, withB}
-use Rattle.machine.specs.Acts.{Act, fin, save, follow, operand, done, onPlace, exec, answer, left, Ends, Performs, troubled, Gives}
+use Rattle.machine.specs.Acts.{Act, fin, load, save, follow, done, onPlace, exec, answer, left, Ends, Performs, troubled, Gives}
 use Rattle.machine.specs.Ways.{wayAct}
-use Rattle.machine.specs.Errands.{errandAct}
+use Rattle.machine.specs.Errands.{started, lengthOf, errandAct}
 use Rattle.machine.specs.declared.record.Registers.{Registers}
 use Rattle.machine.specs.declared.replies.Stepped.{Stepped}
 use Rattle.machine.specs.declared.replies.Trouble.{Trouble}
@@ -57,18 +60,35 @@ direct pages m r word k h =
     let e : bit 15 word ≡ false = ne-eqb _ _ (λ (z : word / 0o100000 % 2 ≡ 1). omega arith) in
     rw (chain-direct pages (r .wmap) m word (r .a) (r .b) e, mod-eq-of-lt h) refl
 
-module _ (pages : List ℕ) (way : Way) (word : ℕ) {m n : List ℕ} {r : Registers} {next : Bool} {at words : ℕ} {s : Stepped}
-    (h : Performs pages (wayAct way r at words) r m s n) where
-  pub by-next : {g : Got} {v : ℕ} → next ≡ true → Gives pages (operand 1 r) r m g → g ≡ Got.Value v → at ≡ v → words ≡ 2
-      → Performs pages (errandAct (Errand.At way next word) r) r m s n
-  by-next e gives f a w = rw (e, had-value gives f (λ q. wayAct way r q 2)) (rw (a, w) at h)
+-- `at` is the address word of an instruction, which is so many words long
+pub record Starts (pages : List ℕ) (next : Bool) (word : ℕ) (r : Registers) (m : List ℕ) (at words : ℕ) : Type 0 where
+  pub goes : (k : ℕ → Act) → exec pages (started next word r k) r m ≡ exec pages (follow at k) r m
+  pub length : words ≡ lengthOf next
 
-  pub by-chain : {g : Got} {v : ℕ} → next ≡ false → Gives pages (follow word) r m g → g ≡ Got.Value v → at ≡ v → words ≡ 1
-      → Performs pages (errandAct (Errand.At way next word) r) r m s n
-  by-chain e gives f a w = rw (e, had-value gives f (λ q. wayAct way r q 1)) (rw (a, w) at h)
+module _ (pages : List ℕ) (word : ℕ) (r : Registers) (m : List ℕ) {next : Bool} {at words : ℕ} where
+  pub by-next : {g : Got} {w : ℕ} → next ≡ true → Gives pages (load Map.Execute (address (r .p) 1)) r m g → g ≡ Got.Value w → at ≡ w
+      → words ≡ 2 → Starts pages next word r m at words
+  by-next e gives f a l = rw (e, a, l) (record { goes = λ k. had-value gives f (λ w. follow w k); length = refl })
 
-  pub by-word : next ≡ false → word < 0o100000 → at ≡ word → words ≡ 1 → Performs pages (errandAct (Errand.At way next word) r) r m s n
-  by-word e b a w = rw (e, direct pages m r word (λ q. wayAct way r q 1) b) (rw (a, w) at h)
+  pub by-word : next ≡ false → at ≡ word → words ≡ 1 → Starts pages next word r m at words
+  by-word e a l = rw (e, a, l) (record { goes = λ k. refl; length = refl })
+
+-- where an address word leads
+pub record Leads (pages : List ℕ) (r : Registers) (m : List ℕ) (at to : ℕ) : Type 0 where
+  pub goes : (k : ℕ → Act) → exec pages (follow at k) r m ≡ exec pages (k to) r m
+
+module _ (pages : List ℕ) (r : Registers) (m : List ℕ) (at : ℕ) {to : ℕ} where
+  pub by-chain : {g : Got} {v : ℕ} → Gives pages (follow at) r m g → g ≡ Got.Value v → to ≡ v → Leads pages r m at to
+  by-chain gives f e = rw e (record { goes = λ k. had-value gives f k })
+
+  pub by-itself : at < 0o100000 → to ≡ at → Leads pages r m at to
+  by-itself h e = rw e (record { goes = λ k. direct pages m r at k h })
+
+pub arrives : {pages : List ℕ} {next : Bool} {word : ℕ} {r : Registers} {m n : List ℕ} {at words to : ℕ} {s : Stepped} (way : Way)
+    → Starts pages next word r m at words → Leads pages r m at to → Performs pages (wayAct way r to words) r m s n
+    → Performs pages (errandAct (Errand.At way next word) r) r m s n
+arrives {next = next} {r = r} way starts leads h =
+    rw (starts .goes (λ q. wayAct way r q (lengthOf next)), leads .goes (λ q. wayAct way r q (lengthOf next)), ← starts .length) h
 
 placed : (f : Registers → Registers) (r : Registers) (m : List ℕ) (v : ℕ) (p : Place)
     → f (withA r v) ≡ withA (f r) v → f (withB r v) ≡ withB (f r) v

@@ -13,7 +13,7 @@ use denote.Triple.Clauses.{AtExit}
 use denote.Ref.{now}
 use contract.Lifetimes.{Lfts}
 use mathlib.Core.Path.{_≡_, refl, sym, _∙_, ap}
-use mathlib.Core.Bool.{cond}
+use mathlib.Core.Bool.{false, cond}
 use mathlib.Core.List.{List, []}
 use lib.Dec.{eqb}
 use Rattle.word.proofs.Tight.{OneResult}
@@ -312,7 +312,9 @@ pub get-word-tight : OneResult 2 get-word.ps get-word.r get-word-reads.Post
 get-word-tight κs a x y s t p q = gives-tight x y p q
 
 pub get-target-tight : OneResult 2 get-target.ps get-target.r get-target-reads.Post
-get-target-tight κs a x y s t p q = gives-tight x y p q
+get-target-tight κs a x y s t p q =
+    let r : Registers = record { a = a .1 .1 .0; b = a .1 .1 .1 .0; x = 0; y = 0; p = 0; e = false; o = false; wmap = a .1 .0; imap = 0; violation = 0; interrupt = 0; trap = 0; switches = 0; lights = 0 } in
+    gives-tight x y (p r refl refl refl) (q r refl refl refl)
 
 pub get-element-tight : OneResult 2 get-element.ps get-element.r get-element-reads.Post
 get-element-tight κs a x y s t p q = gives-tight x y p q

@@ -84,7 +84,7 @@ fn leave_trap(to: u16, r: Registers) -> Registers
 fn trap_jump(word: u16, r: Registers, pages: &[u16], memory: &[u16]) -> Stepped
     ensures { λ s. ⌜ Performs (now (pages .entry)) (trapWay Way.Jump r word) r (now (memory .entry)) s (now (memory .entry)) ⌝ }
 {
-    match get_target(word, r, pages, memory) {
+    match get_target(word, r.wmap, r.a, r.b, pages, memory) {
         Got::Value(at) => completed(leave_trap(at, r)),
         Got::Ends(t) => stop_by(t, r),
     }
@@ -94,7 +94,7 @@ fn trap_jump(word: u16, r: Registers, pages: &[u16], memory: &[u16]) -> Stepped
 fn trap_jump_saving(word: u16, r: Registers, pages: &[u16], memory: &mut [u16]) -> Stepped
     ensures { λ s. ⌜ Performs (now (pages .entry)) (trapWay Way.JumpSaving r word) r (now (memory .entry)) s (now (memory .exit)) ⌝ }
 {
-    match get_target(word, r, pages, memory) {
+    match get_target(word, r.wmap, r.a, r.b, pages, memory) {
         Got::Value(at) => {
             let s = leave_trap(past(at, 1), r);
             put_last(r.p, Map::Execute, at, s, r, pages, memory)

@@ -8,6 +8,7 @@ use maps::chains::follow;
 use maps::pages::Map;
 use word::sums::past;
 ghost use mathlib.Core.Path.{_≡_};
+ghost use Rattle.machine.specs.declared.record.Registers.{Registers};
 ghost use Rattle.machine.specs.Acts.{load, follow as following, operand, Gives};
 
 // What was read, or what ends the step.
@@ -27,11 +28,11 @@ pub(crate) fn get_word(map: Map, at: u16, r: Registers, pages: &[u16], memory: &
     }
 }
 
-// Where an address word leads.
-pub(crate) fn get_target(word: u16, r: Registers, pages: &[u16], memory: &[u16]) -> Got
-    ensures { λ g. ⌜ Gives (now (pages .entry)) (following word) r (now (memory .entry)) g ⌝ }
+// Where an address word leads, with such a WMAP, A and B.
+pub(crate) fn get_target(word: u16, wmap: u16, a: u16, b: u16, pages: &[u16], memory: &[u16]) -> Got
+    ensures { λ g. ⌜ ((r : Registers) → r .wmap ≡ wmap → r .a ≡ a → r .b ≡ b → Gives (now (pages .entry)) (following word) r (now (memory .entry)) g) ⌝ }
 {
-    match follow(pages, memory, r.wmap, word, r.a, r.b) {
+    match follow(pages, memory, wmap, word, a, b) {
         Chain::Address(at) => Got::Value(at),
         Chain::Endless => Got::Ends(Trouble::Endless),
         Chain::Closed => Got::Ends(Trouble::Violation),
@@ -44,7 +45,7 @@ pub(crate) fn get_address(n: u16, r: Registers, pages: &[u16], memory: &[u16]) -
     ensures { λ g. ⌜ Gives (now (pages .entry)) (operand n r) r (now (memory .entry)) g ⌝ }
 {
     match get_word(Map::Execute, past(r.p, n), r, pages, memory) {
-        Got::Value(w) => get_target(w, r, pages, memory),
+        Got::Value(w) => get_target(w, r.wmap, r.a, r.b, pages, memory),
         Got::Ends(t) => Got::Ends(t),
     }
 }

@@ -13,7 +13,6 @@ use crate::memory::memory_word;
 use crate::memory::trap_reference;
 use crate::moves::move_string;
 use crate::reads::Got;
-use crate::reads::get_address;
 use crate::reads::get_target;
 use crate::reads::get_word;
 use crate::record::Registers;
@@ -37,6 +36,7 @@ use code::instructions::read_instruction;
 use maps::pages::Map;
 use word::sums::decrement;
 use word::sums::increment;
+use word::sums::past;
 ghost use mathlib.Core.Path.{_≡_};
 ghost use mathlib.Core.Bool.{cond, _&&_};
 ghost use Rattle.maps.specs.Pages.{protecting};
@@ -49,8 +49,8 @@ ghost use Rattle.machine.specs.Rules.{trapRule, stepAct};
 ghost use Rattle.machine.specs.Record.{valid};
 ghost use Rattle.machine.specs.Step.{goodCall, Steps};
 
-// An instruction goes its way at the address that its next word leads to, or else the word given: an
-// address where its bit 15 is clear.
+// An instruction goes its way at the address that its next word leads to, or else the word given. With
+// bit 15 clear an address word is the address.
 fn go_way(
     way: Way,
     next: bool,
@@ -65,12 +65,13 @@ fn go_way(
     let mut words: u16 = 1;
     if next {
         words = 2;
-        match get_address(1, r, pages, memory) {
-            Got::Value(v) => at = v,
+        match get_word(Map::Execute, past(r.p, 1), r, pages, memory) {
+            Got::Value(w) => at = w,
             Got::Ends(t) => return stop_by(t, r),
         }
-    } else if word >= 0o100000 {
-        match get_target(word, r, pages, memory) {
+    }
+    if at >= 0o100000 {
+        match get_target(at, r.wmap, r.a, r.b, pages, memory) {
             Got::Value(v) => at = v,
             Got::Ends(t) => return stop_by(t, r),
         }

@@ -26,10 +26,10 @@ stop-by-requires c κs = search needs
 
 returns : tie.Need-returns
 unfolding exec
-returns c = rw (had-value (c .before .before .before .before .before .get-target .ensures) (c .before .before .before .at .given .1) _, c .completed .ensures, c .before .leave-trap .ensures) (record { outcome = refl; memory = refl })
+returns c = rw (had-value (c .before .before .before .before .before .get-target .ensures (c .before .before .before .before .before .before .before .before .args .r) refl refl refl) (c .before .before .before .at .given .1) _, c .completed .ensures, c .before .leave-trap .ensures) (record { outcome = refl; memory = refl })
 
 returns-2 : tie.Need-returns-2
-returns-2 c = had-stop (c .before .before .before .before .get-target .ensures) (c .before .before .t .given .1) (c .stop-by .ensures) _
+returns-2 c = had-stop (c .before .before .before .before .get-target .ensures (c .before .before .before .before .before .before .before .args .r) refl refl refl) (c .before .before .t .given .1) (c .stop-by .ensures) _
 
 pub trap-jump-spec : {M : Type 1} → statement M
 trap-jump-spec =

@@ -31,13 +31,13 @@ same-length : tie.Need-same-length
 same-length c = search needs
 
 returns : tie.Need-returns
-returns c = rw (had-value (c .before .before .before .before .before .before .before .before .before .get-target .ensures) (c .before .before .before .before .before .before .before .at .given .1) _) (ends-last _ _ _ _ (λ s. withTrap (withP s _) 0) _ _ refl refl refl (rw (c .before .before .before .before .leave-trap .ensures, c .before .before .before .before .before .past .ensures)) (c .before .before .put-last .ensures))
+returns c = rw (had-value (c .before .before .before .before .before .before .before .before .before .get-target .ensures (c .before .before .before .before .before .before .before .before .before .before .before .before .before .args .r) refl refl refl) (c .before .before .before .before .before .before .before .at .given .1) _) (ends-last _ _ _ _ (λ s. withTrap (withP s _) 0) _ _ refl refl refl (rw (c .before .before .before .before .leave-trap .ensures, c .before .before .before .before .before .past .ensures)) (c .before .before .put-last .ensures))
 
 same-length-2 : tie.Need-same-length-2
 same-length-2 c = search needs
 
 returns-2 : tie.Need-returns-2
-returns-2 c = had-stop (c .before .before .before .before .get-target .ensures) (c .before .before .t .given .1) (c .stop-by .ensures) _
+returns-2 c = had-stop (c .before .before .before .before .get-target .ensures (c .before .before .before .before .before .before .before .before .args .r) refl refl refl) (c .before .before .t .given .1) (c .stop-by .ensures) _
 
 pub trap-jump-saving-spec : {M : Type 1} → statement M
 trap-jump-saving-spec =

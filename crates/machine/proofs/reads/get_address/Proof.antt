@@ -1,5 +1,5 @@
 -- `reads::get_address` meets its contract: by what its calls ensure. Assumes nothing.
-use mathlib.Core.Path.{_∙_}
+use mathlib.Core.Path.{refl, _∙_}
 use Rattle.machine.proofs.Operands.{had-value, had-trouble}
 use borrow.Author.Needs.{needs}
 use Rattle.machine.proofs.reads.get_address.Statement.{statement}
@@ -21,7 +21,7 @@ enum-known-t : tie.Need-enum-known-t
 enum-known-t c = search needs
 
 returns : tie.Need-returns
-returns c = record { goes = λ k. had-value (rw (c .before .before .before .before .before .past .ensures) at (c .before .before .before .before .get-word .ensures)) (c .before .before .w .given .1) _ ∙ c .get-target .ensures .goes k }
+returns c = record { goes = λ k. had-value (rw (c .before .before .before .before .before .past .ensures) at (c .before .before .before .before .get-word .ensures)) (c .before .before .w .given .1) _ ∙ c .get-target .ensures _ refl refl refl .goes k }
 
 returns-2 : tie.Need-returns-2
 returns-2 c = record { goes = λ k. had-trouble (rw (c .before .before .before .before .past .ensures) at (c .before .before .before .get-word .ensures)) (c .before .t .given .1) _ }

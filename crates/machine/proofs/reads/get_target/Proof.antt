@@ -21,19 +21,19 @@ enum-told-3 c = search needs
 
 returns : tie.Need-returns
 unfolding exec
-returns c = record { goes = λ k. rw (← c .before .before .before .follow .ensures, c .before .at .given .1) }
+returns c = λ r e f g. record { goes = λ k. rw (e, f, g, ← c .before .before .before .follow .ensures, c .before .at .given .1) }
 
 returns-2 : tie.Need-returns-2
 unfolding exec
-returns-2 c = record { goes = λ k. rw (← c .before .before .follow .ensures, c .enum-told .given .1) }
+returns-2 c = λ r e f g. record { goes = λ k. rw (e, f, g, ← c .before .before .follow .ensures, c .enum-told .given .1) }
 
 returns-3 : tie.Need-returns-3
 unfolding exec
-returns-3 c = record { goes = λ k. rw (← c .before .before .follow .ensures, c .enum-told2 .given .1) }
+returns-3 c = λ r e f g. record { goes = λ k. rw (e, f, g, ← c .before .before .follow .ensures, c .enum-told2 .given .1) }
 
 returns-4 : tie.Need-returns-4
 unfolding exec
-returns-4 c = record { goes = λ k. rw (← c .before .before .follow .ensures, c .enum-told3 .given .1) }
+returns-4 c = λ r e f g. record { goes = λ k. rw (e, f, g, ← c .before .before .follow .ensures, c .enum-told3 .given .1) }
 
 pub get-target-spec : {M : Type 1} → statement M
 get-target-spec =
