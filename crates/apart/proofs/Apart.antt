@@ -1,26 +1,56 @@
--- The theorems of specs/Apart, by name. `itself` is what a run makes of its own memory, seen as two.
+-- The theorems of specs/Apart, by name.
+--     both-stored, step-alike, run-alike     from one list of stores to two machines apart
+--     itself                                 what a run makes of its own memory, seen as two
 -- Assumes nothing.
 use Prim.Native.Nat.{ℕ, _/_}
 use mathlib.Core.Path.{_≡_, refl}
 use mathlib.Core.Bool.{Bool, true, false, not, _&&_, _||_}
-use mathlib.Core.List.{List}
+use mathlib.Core.List.{List, []}
 use lib.Dec.{eqb, ltb}
 use Rattle.maps.specs.Pages.{protecting}
+use Rattle.maps.specs.Open.{Agree}
 use Rattle.machine.specs.Acts.{Result, done, violated, refused, answer, left}
 use Rattle.machine.specs.Replies.{number}
 use Rattle.machine.specs.Step.{stepped, ran}
 use Rattle.machine.specs.declared.record.Registers.{Registers}
-use Rattle.apart.specs.Alike.{Kept}
-use Rattle.apart.specs.Apart.{StepApart, RunApart, StepPromise, RunPromise, RunDepends, RunKeeps, RunSize, JobsApart, StepTrouble, NoTrap}
-use Rattle.apart.proofs.Behind.{step-alike, ran-alike}
+use Rattle.apart.specs.Alike.{Store, storedBy, Within, both-by, Kept, Apart, OneList, all-by}
+use Rattle.apart.specs.Apart.{StepApart, RunApart, StepPromise, RunPromise, StepStores, RunStores, RunDepends, RunKeeps, RunSize, JobsApart, StepTrouble, NoTrap}
+use Rattle.apart.proofs.Stores.{stores-kept, Results, all-done, all-violated, all-refused, step-results, Answers, all-ran, ran-answers}
+
+-- two memories that one list of stores was made in
+both-stored : {X : Type 0} (pages : List ℕ) (wmap : ℕ) (m m′ : List ℕ) {x x′ : X} {n n′ : List ℕ} (l : List Store) → Within pages wmap l
+    → Agree pages wmap m m′ → x ≡ x′ → n ≡ storedBy l m → n′ ≡ storedBy l m′ → Apart pages wmap m m′ x x′ n n′
+both-stored pages wmap m m′ l h agree e p q =
+    record { answers = e; stores = both-by l h p q; memories = rw (p, q) (stores-kept pages wmap l m m′ h agree) }
+
+same : (pages : List ℕ) (wmap : ℕ) (m : List ℕ) → Agree pages wmap m m
+same pages wmap m = record { lengths = refl; words = λ index o. refl }
+
+step-alike : (pages : List ℕ) (r : Registers) (m m′ : List ℕ) → Agree pages (r .wmap) m m′ → Results pages (r .wmap) m (stepped pages r)
+    → Apart pages (r .wmap) m m′
+    (answer r (stepped pages r m)) (answer r (stepped pages r m′)) (left m (stepped pages r m)) (left m′ (stepped pages r m′))
+unfolding storedBy
+step-alike pages r m m′ agree (all-done s l h f) =
+    rw (f m (same pages (r .wmap) m), f m′ agree) (both-stored pages (r .wmap) m m′ l h agree refl refl refl)
+step-alike pages r m m′ agree (all-violated f) =
+    rw (f m (same pages (r .wmap) m), f m′ agree) (both-stored pages (r .wmap) m m′ [] tt agree refl refl refl)
+step-alike pages r m m′ agree (all-refused reply f) =
+    rw (f m (same pages (r .wmap) m), f m′ agree) (both-stored pages (r .wmap) m m′ [] tt agree refl refl refl)
+
+run-alike : (pages : List ℕ) (budget : ℕ) (r : Registers) (m m′ : List ℕ) → Agree pages (r .wmap) m m′
+    → Answers pages (r .wmap) m (ran pages budget r)
+    → Apart pages (r .wmap) m m′
+    (ran pages budget r m .ran) (ran pages budget r m′ .ran) (ran pages budget r m .memory) (ran pages budget r m′ .memory)
+run-alike pages budget r m m′ agree (all-ran x l h f) =
+    rw (f m (same pages (r .wmap) m), f m′ agree) (both-stored pages (r .wmap) m m′ l h agree refl refl refl)
 
 pub step-apart : StepApart
 step-apart pages pages′ r r′ m m′ alike =
-    rw (← (alike .registers), ← (alike .maps)) (step-alike pages r m m′ (alike .protected) (alike .opens))
+    rw (← (alike .registers), ← (alike .maps)) (step-alike pages r m m′ (alike .opens) (step-results pages r m (alike .protected)))
 
 pub run-apart : RunApart
 run-apart pages pages′ r r′ m m′ alike budget =
-    rw (← (alike .registers), ← (alike .maps)) (ran-alike pages budget r m m′ (alike .protected) (alike .opens))
+    rw (← (alike .registers), ← (alike .maps)) (run-alike pages budget r m m′ (alike .opens) (ran-answers pages budget r m (alike .protected)))
 
 pub step-promise : StepPromise
 step-promise pages pages′ r r′ m m′ alike s s′ later later′ n n′ p q =
@@ -30,12 +60,27 @@ pub run-promise : RunPromise
 run-promise pages pages′ r r′ m m′ alike budget s s′ later later′ n n′ p q =
     rw (p .goes .outcome, q .goes .outcome, p .goes .memory, q .goes .memory) (run-apart pages pages′ r r′ m m′ alike budget)
 
+pub step-stores : StepStores
+unfolding storedBy
+step-stores pages r m on = go (step-results pages r m on)
+  where
+    go : Results pages (r .wmap) m (stepped pages r) → OneList pages (r .wmap) m (λ m′. left m′ (stepped pages r m′))
+    go (all-done s l h f) = all-by l h (λ m′ a. rw (f m′ a))
+    go (all-violated f) = all-by [] tt (λ m′ a. rw (f m′ a))
+    go (all-refused reply f) = all-by [] tt (λ m′ a. rw (f m′ a))
+
+pub run-stores : RunStores
+run-stores pages budget r m on = go (ran-answers pages budget r m on)
+  where
+    go : Answers pages (r .wmap) m (ran pages budget r) → OneList pages (r .wmap) m (λ m′. ran pages budget r m′ .memory)
+    go (all-ran x l h f) = all-by l h (λ m′ a. rw (f m′ a))
+
 pub run-depends : RunDepends
-run-depends pages r on budget m m′ agree = ran-alike pages budget r m m′ on agree .answers
+run-depends pages r on budget m m′ agree = run-alike pages budget r m m′ agree (ran-answers pages budget r m on) .answers
 
 itself : (pages : List ℕ) (r : Registers) → protecting (r .wmap) ≡ true → (budget : ℕ) (m : List ℕ)
     → Kept pages (r .wmap) m m (ran pages budget r m .memory) (ran pages budget r m .memory)
-itself pages r on budget m = ran-alike pages budget r m m on (record { lengths = refl; words = λ index o. refl }) .memories
+itself pages r on budget m = run-alike pages budget r m m (same pages (r .wmap) m) (ran-answers pages budget r m on) .memories
 
 pub run-keeps : RunKeeps
 run-keeps pages r on budget m index shut = itself pages r on budget m .closed index shut .0

@@ -2,14 +2,18 @@
 --     pages, program, memory, start     two pages of memory: a job runs on the first, the second is closed to reading and holds any x
 --     agree, both, example              the memories of any x and y agree; the theorem applied to them
 --     ended                             the run by computation: it stores, compares, counts and ends in a violation
+--     closed-store, one-changes         its stores, for every x: where x is 5, the store on the closed page changes no word
+--     one-alone                         a machine that leaves out a store by what a closed page holds is no OneList
 --     unprotected to after-interrupt    where a hypothesis fails, two runs differ
 -- Assumes nothing.
 use Prim.Native.Nat.{ℕ, zero, suc, _<_, _+_, _*_, _/_}
 use native.Mathlib.Omega.{arith}
-use mathlib.Core.Path.{_≡_, refl, sym, _∙_}
-use mathlib.Core.Bool.{false}
-use mathlib.Core.List.{List, _∷_, _++_}
-use lib.ListN.{getD, replicate, getD-replicate, List·getD-append}
+use mathlib.Core.Path.{_≡_, refl, sym, _∙_, ap}
+use mathlib.Core.Logic.{⊎-elim}
+use mathlib.Core.Bool.{false, cond}
+use mathlib.Core.List.{List, [], _∷_, _++_}
+use lib.Dec.{eqb}
+use lib.ListN.{getD, set, replicate, getD-replicate, List·getD-append}
 use Rattle.word.specs.Sums.{sum}
 use Rattle.maps.specs.Pages.{physicalPage, readProtected, mapNumber, isOpen, presence, spot, place}
 use Rattle.maps.specs.Access.{fetched}
@@ -22,11 +26,12 @@ use Rattle.code.specs.Instructions.{memoryReference, reading}
 use Rattle.machine.specs.Step.{stepped, ending, running, ran}
 use Rattle.machine.specs.declared.record.Registers.{Registers}
 use Rattle.machine.specs.declared.replies.Reply.{Reply}
-use Rattle.apart.specs.Alike.{Alike, Apart}
+use Rattle.apart.specs.Alike.{Alike, Store, storedBy, Apart, OneList, all-by}
+use Rattle.apart.proofs.Stores.{stores-kept}
 use Rattle.apart.proofs.Apart.{run-apart}
 
 -- register 1 of map 0 names the second page of memory, every other the first
-abbrev pages : ℕ → List ℕ
+abbrev pub pages : ℕ → List ℕ
 pages second = 0 ∷ second ∷ replicate 1022 0
 
 -- closed to reading and open to storing
@@ -43,7 +48,7 @@ abbrev memory : ℕ → List ℕ
 memory x = program 1 ++ replicate 1024 x
 
 -- all three maps are map 0
-abbrev start : ℕ → Registers
+abbrev pub start : ℕ → Registers
 start wmap =
     record { a = 0; b = 0; x = 0; y = 0; p = 2; e = false; o = false; wmap = wmap; imap = 0; violation = 0; interrupt = 0; trap = 0; switches = 0; lights = 0 }
 
@@ -97,6 +102,34 @@ pub ended : (x : ℕ) → ran shut 10 protected (memory x)
     ≡ ending Reply.Violation 5 (interrupted (withP (withA protected 5) 6)) (program 2 ++ (5 ∷ replicate 1023 x))
 unfolding ran running stepped exec reading memoryReference fetched chain chased place isOpen presence spot sum
 ended x = refl
+
+-- the stores of that run, the same for every x
+abbrev stores : List Store
+stores = record { index = 0o2000; word = 5 } ∷ record { index = 0o102; word = 2 } ∷ []
+
+pub closed-store : (x : ℕ) → ran shut 10 protected (memory x) .memory ≡ storedBy stores (memory x)
+unfolding ran running stepped exec reading memoryReference fetched chain chased place isOpen presence spot sum storedBy
+closed-store x = refl
+
+-- one machine finds on the closed page what is stored there, and another word changes in the other
+pub one-changes : (ran shut 10 protected (memory 5) .memory ≡ set (memory 5) 0o102 2)
+    × (getD (ran shut 10 protected (memory 7) .memory) 0o2000 0 ≡ 5)
+unfolding ran running stepped exec reading memoryReference fetched chain chased place isOpen presence spot sum
+one-changes = (refl, refl)
+
+-- Stores 5 on the closed page unless it finds 7 there: two such memories can end alike, and no list of stores serves every one.
+abbrev unless-seven : List ℕ → List ℕ
+unless-seven m = cond (eqb (getD m 0o2000 0) 7) m (set m 0o2000 5)
+
+pub one-alone : OneList shut 0o100000 (memory 0) unless-seven → ⊥
+one-alone (all-by l h f) =
+    let here = f (memory 0) (agree 0o100000 zeros-on 0 0) in
+    let there = f (memory 7) (agree 0o100000 zeros-on 0 7) in
+    let kept = stores-kept shut 0o100000 l (memory 0) (memory 7) h (agree 0o100000 zeros-on 0 7) in
+    ⊎-elim
+    (λ w. let z : _≡_ {A = ℕ} 5 0 = ap (λ (m : List ℕ). getD m 0o2000 0) here ∙ w .0 in omega arith)
+    (λ e. let z : _≡_ {A = ℕ} 5 7 = ap (λ (m : List ℕ). getD m 0o2000 0) here ∙ e ∙ sym (ap (λ (m : List ℕ). getD m 0o2000 0) there) in omega arith)
+    (kept .others 0o2000)
 
 ---- Each is needed
 

@@ -1,8 +1,10 @@
 -- The proof of demand 3, and examples.
---     Behind      the induction over access programs, and over the budget
+--     Stores      the induction over access programs, and over the budget
 --     Apart       the theorems
 --     Examples    examples of the theorems, by computation
+--     ThroughData examples where a page is open through DATA1 alone, and through DATA2 alone
 -- Assumes nothing.
-pub mod Behind
+pub mod Stores
 pub mod Apart
 pub mod Examples
+pub mod ThroughData

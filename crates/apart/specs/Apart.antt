@@ -1,6 +1,7 @@
 -- Demand 3: what a closed page holds can make no difference. What is claimed; the proofs are in proofs/Apart.
 --     StepApart, RunApart        two machines alike: a step, and a run up to its first interrupt
 --     StepPromise, RunPromise    the same of what `step` and `run` promise; page registers stay by the promises themselves
+--     StepStores, RunStores      of one machine: which words a step and a run store depends on no closed page
 --     RunDepends, RunKeeps, RunSize    of one machine: what a run depends on, and what it does not change
 --     JobsApart                  two jobs on one memory
 --     StepTrouble                a step that does not reply 0 changes no word
@@ -22,7 +23,7 @@ use Rattle.machine.specs.Step.{stepped, Steps, ran, Runs}
 use Rattle.machine.specs.declared.record.Registers.{Registers}
 use Rattle.machine.specs.declared.replies.Stepped.{Stepped}
 use Rattle.machine.specs.declared.replies.Ran.{Ran}
-use Rattle.apart.specs.Alike.{Alike, Apart}
+use Rattle.apart.specs.Alike.{Alike, Apart, OneList}
 
 -- one step
 abbrev pub StepApart : Type 0
@@ -51,6 +52,17 @@ RunPromise =
     (pages pages′ : List ℕ) (r r′ : Registers) (m m′ : List ℕ) → Alike pages pages′ r r′ m m′ → (budget : ℕ)
     → (s s′ : Ran) (later later′ n n′ : List ℕ) → Runs pages budget r m s later n → Runs pages′ budget r′ m′ s′ later′ n′
     → Apart pages (r .wmap) m m′ s s′ n n′
+
+-- one list of stores for every memory that agrees on the pages open to reading
+abbrev pub StepStores : Type 0
+StepStores =
+    (pages : List ℕ) (r : Registers) (m : List ℕ) → protecting (r .wmap) ≡ true
+    → OneList pages (r .wmap) m (λ m′. left m′ (stepped pages r m′))
+
+abbrev pub RunStores : Type 0
+RunStores =
+    (pages : List ℕ) (budget : ℕ) (r : Registers) (m : List ℕ) → protecting (r .wmap) ≡ true
+    → OneList pages (r .wmap) m (λ m′. ran pages budget r m′ .memory)
 
 -- reply, count and registers of a run depend only on the words of pages open to reading
 abbrev pub RunDepends : Type 0
