@@ -23,6 +23,17 @@ write-then-read i w h = instruction-again i w h .1
 pub is-word : (i : Instruction) (w : ℕ) → writing i ≡ Word w → w < 0o200000
 is-word i w h = instruction-again i w h .0
 
+-- 01, reply 9, "no word reads as this instruction": where the writer has no word, no word reads so.
+pub no-word : (i : Instruction) → writing i ≡ NoWord → (w : ℕ) → w < 0o200000 → reading w ≡ i → ⊥
+no-word i h w l e = one-answer (sym (read-then-write w l) ∙ ap writing e ∙ h)
+  where
+    one-answer : Word w ≡ NoWord → ⊥
+    one-answer q = let z : _≡_ {A = ℕ} 0 1 = cc in omega arith
+
+-- Where some word reads as an instruction, the writer has that word.
+pub has-word : (i : Instruction) (w : ℕ) → w < 0o200000 → reading w ≡ i → writing i ≡ Word w
+has-word i w l e = ap writing (sym e) ∙ read-then-write w l
+
 -- No two instructions have the same word.
 pub one-word : (i j : Instruction) (w : ℕ) → writing i ≡ Word w → writing j ≡ Word w → i ≡ j
 one-word i j w h k = sym (write-then-read i w h) ∙ write-then-read j w k

@@ -1,19 +1,22 @@
--- A step keeps what a good call asks for, the length of memory and a valid record; and where it replies 0 it keeps WMAP.
---     Keeps                   a program whose every ending keeps what is asked of registers
+-- A step keeps what a good call asks for, the length of memory and a valid record; where it replies 0 it keeps WMAP; and it
+-- refuses with 2 to 7 only.
+--     Keeps                   a program whose every ending keeps what is asked of registers, and of refusals
 --     Carries, exec-holds     what stores keep, and endings keep, holds of the result
 --     left-length, exec-length, stepped-length    a program leaves as many words as it found
 --     moved-valid .. interrupted-valid            records that stay valid
+--     Refusal                                     the replies that a rule may refuse with
 --     moved-sound .. step-act-sound               the program of each rule, and of a step, keeps validity and WMAP
 --     step-valid              so the registers after a step are valid
 --     good-stepped, good-kept the step of a good call, and the call that follows it
 --     step-stays              a step that replies 0 leaves WMAP as it was
+--     step-fair               a step of a valid record refuses with 2 to 7 only
 -- Assumes nothing.
 use Prim.Native.Nat.{ℕ, zero, suc, _<_, _+_, _*_, _/_, _%_}
 use native.Mathlib.Omega.{arith}
 use mathlib.Core.Path.{_≡_, refl, sym, _∙_}
 use mathlib.Core.Bool.{Bool, true, false, cond, not, _&&_, _||_}
 use mathlib.Core.List.{List}
-use lib.Dec.{eqb, ltb}
+use lib.Dec.{T, eqb, ltb, leb}
 use lib.ListN.{length, set, length-set}
 use borrow.Author.Tests.{lt-ltb, ne-eqb}
 use Rattle.word.specs.Words.{weight, everyBitSet}
@@ -78,37 +81,39 @@ use Rattle.code.specs.declared.codes.Bits.{Bits}
 use Rattle.code.specs.declared.codes.Bits.the-variants.{Sbs, Cbs, Tbs}
 use Rattle.code.proofs.Truth.{never}
 
--- every ending of a program keeps R; a chain's address has 15 bits
-abbrev pub Keeps : (Registers → Type 0) → Act → Type 0
-Keeps R (fin f) = (s : Registers) → R s → R (f s)
-Keeps R (stop reply) = Unit
-Keeps R violate = Unit
-Keeps R (load map at k) = (w : ℕ) → Keeps R (k w)
-Keeps R (save map at v k) = Keeps R k
-Keeps R (follow word k) = (at : ℕ) → at < 0o100000 → Keeps R (k at)
-Keeps R (opened map purpose at k) = Keeps R k
-Keeps R (present map at k) = Keeps R k
+-- every ending of a program keeps R, and it refuses only with what Q allows; a chain's address has 15 bits
+abbrev pub Keeps : (Registers → Type 0) → (Reply → Type 0) → Act → Type 0
+Keeps R Q (fin f) = (s : Registers) → R s → R (f s)
+Keeps R Q (stop reply) = Q reply
+Keeps R Q violate = Unit
+Keeps R Q (load map at k) = (w : ℕ) → Keeps R Q (k w)
+Keeps R Q (save map at v k) = Keeps R Q k
+Keeps R Q (follow word k) = (at : ℕ) → at < 0o100000 → Keeps R Q (k at)
+Keeps R Q (opened map purpose at k) = Keeps R Q k
+Keeps R Q (present map at k) = Keeps R Q k
 
--- what stores keep, of registers and of memory, and what follows of the result
-pub record Carries (R : Registers → Type 0) (M : List ℕ → Type 0) (P : Result → Type 0) : Type 0 where
+-- what stores keep, of registers and of memory, and what follows of the result; an access refuses with 3 and 4
+pub record Carries (R : Registers → Type 0) (M : List ℕ → Type 0) (Q : Reply → Type 0) (P : Result → Type 0) : Type 0 where
   pub in-a : (r : Registers) (v : ℕ) → R r → R (withA r v)
   pub in-b : (r : Registers) (v : ℕ) → R r → R (withB r v)
   pub in-memory : (m : List ℕ) (i v : ℕ) → M m → M (set m i v)
   pub completion : (r : Registers) (m : List ℕ) → R r → M m → P (done r m)
   pub violation : P violated
-  pub refusal : (reply : Reply) → P (refused reply)
+  pub refusal : (reply : Reply) → Q reply → P (refused reply)
+  pub absent : Q Reply.Absent
+  pub endless : Q Reply.Endless
 
-module _ {R : Registers → Type 0} {M : List ℕ → Type 0} {P : Result → Type 0} (h : Carries R M P) where
+module _ {R : Registers → Type 0} {M : List ℕ → Type 0} {Q : Reply → Type 0} {P : Result → Type 0} (h : Carries R M Q P) where
   at-fetched : (x : Fetched) (k : ℕ → Result) → ((w : ℕ) → P (k w)) → P (onFetched x k)
   at-fetched (Fetched.Word w) k on = on w
   at-fetched Fetched.Closed k on = h .violation
-  at-fetched (Fetched.Absent page) k on = h .refusal Reply.Absent
+  at-fetched (Fetched.Absent page) k on = h .refusal Reply.Absent (h .absent)
 
   at-chain : (x : Chain) (k : ℕ → Result) → ((at : ℕ) → x ≡ Chain.Address at → P (k at)) → P (onChain x k)
   at-chain (Chain.Address at) k on = on at refl
-  at-chain Chain.Endless k on = h .refusal Reply.Endless
+  at-chain Chain.Endless k on = h .refusal Reply.Endless (h .endless)
   at-chain Chain.Closed k on = h .violation
-  at-chain (Chain.Absent page) k on = h .refusal Reply.Absent
+  at-chain (Chain.Absent page) k on = h .refusal Reply.Absent (h .absent)
 
   at-place : (x : Place) (v : ℕ) (k : Registers → List ℕ → Result) (r : Registers) (m : List ℕ)
       → ((s : Registers) (n : List ℕ) → R s → M n → P (k s n)) → R r → M m → P (onPlace x v k r m)
@@ -116,7 +121,7 @@ module _ {R : Registers → Type 0} {M : List ℕ → Type 0} {P : Result → Ty
   at-place Place.B v k r m on p q = on (withB r v) m (h .in-b r v p) q
   at-place (Place.Memory i) v k r m on p q = on r (set m i v) p (h .in-memory m i v q)
   at-place Place.Closed v k r m on p q = h .violation
-  at-place (Place.Absent page) v k r m on p q = h .refusal Reply.Absent
+  at-place (Place.Absent page) v k r m on p q = h .refusal Reply.Absent (h .absent)
 
   at-open : (b : Bool) (x : Result) → P x → P (onOpen b x)
   at-open true x on = on
@@ -124,12 +129,12 @@ module _ {R : Registers → Type 0} {M : List ℕ → Type 0} {P : Result → Ty
 
   at-presence : (p : Presence) (x : Result) → P x → P (onPresence p x)
   at-presence Presence.Present x on = on
-  at-presence (Presence.Absent page) x on = h .refusal Reply.Absent
+  at-presence (Presence.Absent page) x on = h .refusal Reply.Absent (h .absent)
 
-  pub exec-holds : (pages : List ℕ) (act : Act) → Keeps R act → (r : Registers) (m : List ℕ) → R r → M m → P (exec pages act r m)
+  pub exec-holds : (pages : List ℕ) (act : Act) → Keeps R Q act → (r : Registers) (m : List ℕ) → R r → M m → P (exec pages act r m)
   unfolding exec
   exec-holds pages (fin f) e r m p q = h .completion (f r) m (e r p) q
-  exec-holds pages (stop reply) e r m p q = h .refusal reply
+  exec-holds pages (stop reply) e r m p q = h .refusal reply e
   exec-holds pages violate e r m p q = h .violation
   exec-holds pages (load map at k) e r m p q =
       at-fetched (fetched pages m (r .wmap) map at (r .a) (r .b)) (λ w. exec pages (k w) r m) (λ w. exec-holds pages (k w) (e w) r m p q)
@@ -146,7 +151,7 @@ module _ {R : Registers → Type 0} {M : List ℕ → Type 0} {P : Result → Ty
 -- The length of memory.
 
 -- where nothing is asked of registers, every program keeps it
-keeps-none : (act : Act) → Keeps (λ _. Unit) act
+keeps-none : (act : Act) → Keeps (λ _. Unit) (λ _. Unit) act
 keeps-none (fin f) = λ s _. tt
 keeps-none (stop reply) = tt
 keeps-none violate = tt
@@ -156,7 +161,7 @@ keeps-none (follow word k) = λ at _. keeps-none (k at)
 keeps-none (opened map purpose at k) = keeps-none k
 keeps-none (present map at k) = keeps-none k
 
-carries-length : (m : List ℕ) → Carries (λ _. Unit) (λ n. length n ≡ length m) (λ x. length (left m x) ≡ length m)
+carries-length : (m : List ℕ) → Carries (λ _. Unit) (λ n. length n ≡ length m) (λ _. Unit) (λ x. length (left m x) ≡ length m)
 carries-length m =
     record {
       in-a = λ r v _. tt;
@@ -164,7 +169,9 @@ carries-length m =
       in-memory = λ n i v e. length-set n i v ∙ e;
       completion = λ r n _ e. e;
       violation = refl;
-      refusal = λ reply. refl;
+      refusal = λ reply _. refl;
+      absent = tt;
+      endless = tt;
     }
 
 pub left-length : (pages : List ℕ) (act : Act) (r : Registers) (m : List ℕ) → length (left m (exec pages act r m)) ≡ length m
@@ -227,6 +234,10 @@ unprotected w = ne-eqb ((data2Map w * 1024 + executeMap w * 32) / 0o100000 % 2) 
 pub interrupted-valid : (r : Registers) → Valid r → Valid (interrupted r)
 interrupted-valid r h = rw (parts r h .one, unprotected (r .wmap))
 
+-- 01, What a step replies: "all as given" is said of 2 to 7, and of 8, which no rule gives
+abbrev pub Refusal : Reply → Type 0
+Refusal reply = T (leb 2 (number reply) && leb (number reply) 7)
+
 -- Records that stay valid and keep WMAP.
 module _ (wmap : ℕ) where
   abbrev pub Sound : Registers → Type 0
@@ -261,7 +272,7 @@ module _ (wmap : ℕ) where
   -- Programs that keep both.
 
   abbrev KeepsSound : Act → Type 0
-  KeepsSound = Keeps Sound
+  KeepsSound = Keeps Sound Refusal
 
   either : (b : Bool) (x y : Act) → KeepsSound x → KeepsSound y → KeepsSound (cond b x y)
   either true x y p q = p
@@ -489,7 +500,7 @@ module _ (wmap : ℕ) where
 abbrev After : Registers → Result → Type 0
 After r x = Valid (answer r x .registers) × (eqb (number (answer r x .reply)) 0 ≡ true → answer r x .registers .wmap ≡ r .wmap)
 
-carries-sound : (r : Registers) → Valid r → Carries (Sound (r .wmap)) (λ _. Unit) (After r)
+carries-sound : (r : Registers) → Valid r → Carries (Sound (r .wmap)) (λ _. Unit) Refusal (After r)
 carries-sound r h =
     record {
       in-a = λ s v e. e;
@@ -497,7 +508,9 @@ carries-sound r h =
       in-memory = λ m i v _. tt;
       completion = λ s m e _. (e .0, λ q. e .1);
       violation = (interrupted-valid r h, λ q. never (sym q));
-      refusal = λ reply. (h, λ q. refl);
+      refusal = λ reply _. (h, λ q. refl);
+      absent = tt;
+      endless = tt;
     }
 
 step-sound : (pages : List ℕ) (r : Registers) (m : List ℕ) → valid r ≡ true → After r (exec pages (stepAct r) r m)
@@ -506,6 +519,28 @@ step-sound pages r m h = exec-holds (carries-sound r h) pages (stepAct r) (step-
 pub step-valid : (pages : List ℕ) (r : Registers) (m : List ℕ) → valid r ≡ true
     → valid (answer r (exec pages (stepAct r) r m) .registers) ≡ true
 step-valid pages r m h = step-sound pages r m h .0
+
+-- what a result refuses with
+abbrev pub Fair : Result → Type 0
+Fair (done s m) = Unit
+Fair violated = Unit
+Fair (refused reply) = Refusal reply
+
+carries-fair : (wmap : ℕ) → Carries (Sound wmap) (λ _. Unit) Refusal Fair
+carries-fair wmap =
+    record {
+      in-a = λ s v e. e;
+      in-b = λ s v e. e;
+      in-memory = λ m i v _. tt;
+      completion = λ s m e _. tt;
+      violation = tt;
+      refusal = λ reply q. q;
+      absent = tt;
+      endless = tt;
+    }
+
+pub step-fair : (pages : List ℕ) (r : Registers) (m : List ℕ) → valid r ≡ true → Fair (exec pages (stepAct r) r m)
+step-fair pages r m h = exec-holds (carries-fair (r .wmap)) pages (stepAct r) (step-act-sound (r .wmap) r) r m (h, refl) tt
 
 -- A good call.
 

@@ -1,0 +1,1 @@
+// Theorems over the machine; no function.
