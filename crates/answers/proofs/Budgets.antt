@@ -100,15 +100,13 @@ cut-promise pages first second r m few s s₁ s₂ later later₁ later₂ n n�
     let e : ran pages (first + second) r m ≡ onward l (ran pages second) = cut pages first second r m few in
     record {
       spent = λ z.
-          let q : ran pages (first + second) r m ≡ plus (l .ran .count) k = e ∙ rw (eq-eqb _ 0 (rw (one .goes .outcome) at z)) in
-          (
+          let q : ran pages (first + second) r m ≡ plus (l .ran .count) k = e ∙ rw (eq-eqb _ 0 (rw (one .goes .outcome) at z)) in (
             whole .goes .outcome ∙ ap (λ (x : Leaves). x .ran) q ∙ rw (one .goes .outcome, then-two .goes .outcome),
             whole .registers ∙ sym (then-two .registers),
             whole .goes .memory ∙ ap (λ (x : Leaves). x .memory) q ∙ sym (then-two .goes .memory),
           );
       stopped = λ z.
-          let q : ran pages (first + second) r m ≡ l = e ∙ rw (ne-eqb _ 0 (rw (one .goes .outcome) at z)) in
-          (
+          let q : ran pages (first + second) r m ≡ l = e ∙ rw (ne-eqb _ 0 (rw (one .goes .outcome) at z)) in (
             whole .goes .outcome ∙ ap (λ (x : Leaves). x .ran) q ∙ sym (one .goes .outcome),
             whole .registers ∙ sym same,
             whole .goes .memory ∙ ap (λ (x : Leaves). x .memory) q ∙ sym (one .goes .memory),

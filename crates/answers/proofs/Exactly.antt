@@ -5,12 +5,12 @@
 use Prim.Native.Nat.{ℕ, zero, suc, _+_, _≤_}
 use native.Mathlib.Omega.{arith}
 use mathlib.Core.Path.{_≡_, refl, sym, _∙_}
-use mathlib.Core.Bool.{Bool, true, false, cond, _&&_}
+use mathlib.Core.Bool.{Bool, true, false, cond, _&&_, and-eq-true-iff}
 use mathlib.Core.List.{List}
 use lib.Dec.{T, eqb, leb, leb→le}
 use lib.ListN.{length}
 use Rattle.word.specs.Words.{weight}
-use Rattle.code.proofs.Truth.{is-true, never, both}
+use Rattle.code.proofs.Truth.{never}
 use Rattle.machine.specs.Acts.{Result, done, violated, refused, exec, answer, left}
 use Rattle.machine.specs.Replies.{number}
 use Rattle.machine.specs.Step.{goodCall, stepped, Leaves, ending, counting, after, running, ran}
@@ -93,7 +93,7 @@ running-count pages (suc n) r m =
 running-spent : (pages : List ℕ) (budget : ℕ) (r : Registers) (m : List ℕ)
     → number (running pages budget r m .ran .reply) ≡ 0 → running pages budget r m .ran .count ≡ budget
 unfolding running
-running-spent pages zero r m z = refl
+running-spent pages zero r m = λ z. refl
 running-spent pages (suc n) r m =
     after-holds (λ l. number (l .ran .reply) ≡ 0 → l .ran .count ≡ suc n) (answer r (stepped pages r m)) (left m (stepped pages r m)) _
     (λ e z. omega (arith, running-spent pages n (answer r (stepped pages r m) .registers) (left m (stepped pages r m)) z))
@@ -116,7 +116,7 @@ run-bad pages budget r m bad = rw bad
 
 pub run-good-only : RunGoodOnly
 unfolding ran
-run-good-only pages budget r m good = rw good (running-fair pages budget r m (both (goodCall (length pages) (length m) r) (leb budget 1000000) good .0))
+run-good-only pages budget r m good = rw good (running-fair pages budget r m (and-eq-true-iff (goodCall (length pages) (length m) r) (leb budget 1000000) .0 good .0))
 
 pub run-spent : RunSpent
 run-spent pages budget r m =
