@@ -12,14 +12,14 @@ use lib.Dec.{eqb, leb}
 use lib.ListN.{length}
 use borrow.Author.Tests.{leb-true, le-leb, eq-eqb, ne-eqb}
 use Rattle.word.specs.Words.{weight}
-use Rattle.machine.specs.Acts.{answer, left}
-use Rattle.machine.specs.Replies.{number}
+use Rattle.acts.specs.Acts.{answer, left}
+use Rattle.acts.specs.Replies.{number}
 use Rattle.machine.specs.Step.{goodCall, stepped, Leaves, ending, counting, after, running, ran, Runs}
-use Rattle.machine.specs.declared.record.Registers.{Registers}
-use Rattle.machine.specs.declared.replies.Reply.{Reply}
-use Rattle.machine.specs.declared.replies.Stepped.{Stepped}
-use Rattle.machine.specs.declared.replies.Ran.{Ran}
-use Rattle.machine.proofs.Valid.{good-kept}
+use Rattle.acts.specs.declared.record.Registers.{Registers}
+use Rattle.acts.specs.declared.replies.Reply.{Reply}
+use Rattle.acts.specs.declared.replies.Stepped.{Stepped}
+use Rattle.acts.specs.declared.replies.Ran.{Ran}
+use Rattle.machine.proofs.Good.{good-kept}
 use Rattle.answers.specs.Budgets.{plus, onward, Cut, Joined, CutPromise}
 
 -- the first step, and a cut among the steps after it

@@ -11,13 +11,14 @@ use lib.Dec.{T, eqb, leb, leb→le}
 use lib.ListN.{length}
 use Rattle.word.specs.Words.{weight}
 use Rattle.code.proofs.Truth.{never}
-use Rattle.machine.specs.Acts.{Result, done, violated, refused, exec, answer, left}
-use Rattle.machine.specs.Replies.{number}
+use Rattle.acts.specs.Acts.{Result, done, violated, refused, exec, answer, left}
+use Rattle.acts.specs.Replies.{number}
 use Rattle.machine.specs.Step.{goodCall, stepped, Leaves, ending, counting, after, running, ran}
-use Rattle.machine.specs.declared.record.Registers.{Registers}
-use Rattle.machine.specs.declared.replies.Reply.{Reply}
-use Rattle.machine.specs.declared.replies.Stepped.{Stepped}
-use Rattle.machine.proofs.Valid.{Refusal, Fair, step-fair, good-valid, good-stepped, good-kept}
+use Rattle.acts.specs.declared.record.Registers.{Registers}
+use Rattle.acts.specs.declared.replies.Reply.{Reply}
+use Rattle.acts.specs.declared.replies.Stepped.{Stepped}
+use Rattle.rules.proofs.Valid.{Refusal, Fair, step-fair}
+use Rattle.machine.proofs.Good.{good-valid, good-stepped, good-kept}
 use Rattle.answers.specs.Exactly.{Ending, completed, interrupted, refused-with, StepGood, RuleRefuses, StepBad, StepGoodOnly, RunBad, RunGoodOnly, RunSpent, RunCount}
 
 two-to-seven : (reply : Reply) → Refusal reply → (2 ≤ number reply) × (number reply ≤ 7)

@@ -9,10 +9,10 @@ use mathlib.Core.Path.{_≡_}
 use mathlib.Core.Bool.{true, cond}
 use mathlib.Core.List.{List}
 use lib.Dec.{eqb, leb}
-use Rattle.machine.specs.Replies.{number}
+use Rattle.acts.specs.Replies.{number}
 use Rattle.machine.specs.Step.{Leaves, ending, ran, Runs}
-use Rattle.machine.specs.declared.record.Registers.{Registers}
-use Rattle.machine.specs.declared.replies.Ran.{Ran}
+use Rattle.acts.specs.declared.record.Registers.{Registers}
+use Rattle.acts.specs.declared.replies.Ran.{Ran}
 
 -- what a run leaves, with n steps counted before
 abbrev pub plus : ℕ → Leaves → Leaves

@@ -12,13 +12,13 @@ use mathlib.Core.Bool.{true, false, _&&_}
 use mathlib.Core.List.{List}
 use lib.Dec.{leb}
 use lib.ListN.{length}
-use Rattle.machine.specs.Acts.{Result, done, violated, refused, exec, answer}
-use Rattle.machine.specs.Replies.{number}
-use Rattle.machine.specs.Record.{valid}
-use Rattle.machine.specs.Rules.{stepAct}
+use Rattle.acts.specs.Acts.{Result, done, violated, refused, exec, answer}
+use Rattle.acts.specs.Replies.{number}
+use Rattle.acts.specs.Record.{valid}
+use Rattle.rules.specs.Rules.{stepAct}
 use Rattle.machine.specs.Step.{goodCall, stepped, ran}
-use Rattle.machine.specs.declared.record.Registers.{Registers}
-use Rattle.machine.specs.declared.replies.Reply.{Reply}
+use Rattle.acts.specs.declared.record.Registers.{Registers}
+use Rattle.acts.specs.declared.replies.Reply.{Reply}
 
 -- how a step ended, by its number
 pub data Ending (result : Result) : ℕ → Type 0 where

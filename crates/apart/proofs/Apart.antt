@@ -9,10 +9,10 @@ use mathlib.Core.List.{List, []}
 use lib.Dec.{eqb, ltb}
 use Rattle.maps.specs.Pages.{protecting}
 use Rattle.maps.specs.Open.{Agree}
-use Rattle.machine.specs.Acts.{Result, done, violated, refused, answer, left}
-use Rattle.machine.specs.Replies.{number}
+use Rattle.acts.specs.Acts.{Result, done, violated, refused, answer, left}
+use Rattle.acts.specs.Replies.{number}
 use Rattle.machine.specs.Step.{stepped, ran}
-use Rattle.machine.specs.declared.record.Registers.{Registers}
+use Rattle.acts.specs.declared.record.Registers.{Registers}
 use Rattle.apart.specs.Alike.{Store, storedBy, Within, both-by, Kept, Apart, OneList, all-by}
 use Rattle.apart.specs.Apart.{StepApart, RunApart, StepPromise, RunPromise, StepStores, RunStores, RunDepends, RunKeeps, RunSize, JobsApart, StepTrouble, NoTrap}
 use Rattle.apart.proofs.Stores.{stores-kept, Results, all-done, all-violated, all-refused, step-results, Answers, all-ran, ran-answers}

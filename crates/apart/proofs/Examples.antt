@@ -20,12 +20,12 @@ use Rattle.maps.specs.Access.{fetched}
 use Rattle.maps.specs.Chains.{chased, chain}
 use Rattle.maps.specs.Open.{OpenToRead, Agree}
 use Rattle.maps.specs.declared.pages.Map.{Map}
-use Rattle.machine.specs.Record.{withA, withP, interrupted}
-use Rattle.machine.specs.Acts.{exec}
+use Rattle.acts.specs.Record.{withA, withP, interrupted}
+use Rattle.acts.specs.Acts.{exec}
 use Rattle.code.specs.Instructions.{memoryReference, reading}
 use Rattle.machine.specs.Step.{stepped, ending, running, ran}
-use Rattle.machine.specs.declared.record.Registers.{Registers}
-use Rattle.machine.specs.declared.replies.Reply.{Reply}
+use Rattle.acts.specs.declared.record.Registers.{Registers}
+use Rattle.acts.specs.declared.replies.Reply.{Reply}
 use Rattle.apart.specs.Alike.{Alike, Store, storedBy, Apart, OneList, all-by}
 use Rattle.apart.proofs.Stores.{stores-kept}
 use Rattle.apart.proofs.Apart.{run-apart}

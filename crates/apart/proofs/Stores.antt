@@ -24,17 +24,17 @@ use Rattle.maps.specs.declared.pages.Place.{Place}
 use Rattle.maps.specs.declared.pages.Presence.{Presence}
 use Rattle.maps.specs.declared.access.Fetched.{Fetched}
 use Rattle.maps.specs.declared.chains.Chain.{Chain}
-use Rattle.machine.specs.Record.{withA, withB, interrupted}
-use Rattle.machine.specs.Acts.{Act, fin, stop, violate, load, save, follow, opened, present, Result, done, violated, refused, onFetched, onChain, onPlace, onOpen, onPresence, exec, answer, left}
-use Rattle.machine.specs.Replies.{number}
-use Rattle.machine.specs.Rules.{stepAct}
+use Rattle.acts.specs.Record.{withA, withB, interrupted}
+use Rattle.acts.specs.Acts.{Act, fin, stop, violate, load, save, follow, opened, present, Result, done, violated, refused, onFetched, onChain, onPlace, onOpen, onPresence, exec, answer, left}
+use Rattle.acts.specs.Replies.{number}
+use Rattle.rules.specs.Rules.{stepAct}
 use Rattle.machine.specs.Step.{goodCall, stepped, Leaves, ending, counting, after, running, ran}
-use Rattle.machine.specs.declared.record.Registers.{Registers}
-use Rattle.machine.specs.declared.replies.Reply.{Reply}
-use Rattle.machine.specs.declared.replies.Stepped.{Stepped}
-use Rattle.machine.specs.declared.replies.Ran.{Ran}
+use Rattle.acts.specs.declared.record.Registers.{Registers}
+use Rattle.acts.specs.declared.replies.Reply.{Reply}
+use Rattle.acts.specs.declared.replies.Stepped.{Stepped}
+use Rattle.acts.specs.declared.replies.Ran.{Ran}
 use Rattle.apart.specs.Alike.{Store, storedBy, Within, Kept}
-use Rattle.machine.proofs.Valid.{step-stays}
+use Rattle.machine.proofs.Good.{step-stays}
 
 -- Stores, one after another.
 

@@ -25,12 +25,12 @@ use Rattle.code.specs.declared.codes.Data.{Data}
 use Rattle.code.specs.declared.codes.Data.the-variants.{One, Two}
 use Rattle.code.proofs.Digits.{below, under}
 use Rattle.code.proofs.Truth.{is-true}
-use Rattle.machine.specs.Record.{withA, withP, interrupted}
-use Rattle.machine.specs.Acts.{exec}
-use Rattle.machine.specs.Group.{ioAct, panelAct}
+use Rattle.acts.specs.Record.{withA, withP, interrupted}
+use Rattle.acts.specs.Acts.{exec}
+use Rattle.effects.specs.Group.{ioAct, panelAct}
 use Rattle.machine.specs.Step.{stepped, ending, running, ran}
-use Rattle.machine.specs.declared.record.Registers.{Registers}
-use Rattle.machine.specs.declared.replies.Reply.{Reply}
+use Rattle.acts.specs.declared.record.Registers.{Registers}
+use Rattle.acts.specs.declared.replies.Reply.{Reply}
 use Rattle.apart.specs.Alike.{Apart}
 use Rattle.apart.proofs.Apart.{run-apart}
 use Rattle.apart.proofs.Examples as plain

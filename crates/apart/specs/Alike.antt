@@ -15,7 +15,7 @@ use mathlib.Core.List.{List, [], _∷_}
 use lib.ListN.{length, getD, set}
 use Rattle.maps.specs.Pages.{protecting}
 use Rattle.maps.specs.Open.{OpenToStore, Agree}
-use Rattle.machine.specs.declared.record.Registers.{Registers}
+use Rattle.acts.specs.declared.record.Registers.{Registers}
 
 -- equal registers and equal page registers, protection on, memories of one length that agree on every physical page some page
 -- register of the three current maps leaves open to reading

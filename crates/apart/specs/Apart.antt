@@ -16,13 +16,13 @@ use lib.Dec.{eqb}
 use lib.ListN.{length, getD}
 use Rattle.maps.specs.Pages.{protecting}
 use Rattle.maps.specs.Open.{OpenToRead, OpenToStore, Agree}
-use Rattle.machine.specs.Acts.{answer, left}
-use Rattle.machine.specs.Replies.{number}
-use Rattle.machine.specs.Record.{valid}
+use Rattle.acts.specs.Acts.{answer, left}
+use Rattle.acts.specs.Replies.{number}
+use Rattle.acts.specs.Record.{valid}
 use Rattle.machine.specs.Step.{stepped, Steps, ran, Runs}
-use Rattle.machine.specs.declared.record.Registers.{Registers}
-use Rattle.machine.specs.declared.replies.Stepped.{Stepped}
-use Rattle.machine.specs.declared.replies.Ran.{Ran}
+use Rattle.acts.specs.declared.record.Registers.{Registers}
+use Rattle.acts.specs.declared.replies.Stepped.{Stepped}
+use Rattle.acts.specs.declared.replies.Ran.{Ran}
 use Rattle.apart.specs.Alike.{Alike, Apart, OneList}
 
 -- one step

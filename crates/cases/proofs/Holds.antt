@@ -18,14 +18,14 @@ use Rattle.word.specs.Products.{multiplied, divided}
 use Rattle.maps.specs.Pages.{isOpen, presence, spot, place}
 use Rattle.maps.specs.Access.{fetched}
 use Rattle.maps.specs.Chains.{chased, chain}
-use Rattle.machine.specs.Replies.{number}
+use Rattle.acts.specs.Replies.{number}
 use Rattle.code.specs.Codes.{rows, findWord}
 use Rattle.code.specs.Instructions.{memoryReference, shiftRotate, alterSkip, inputOutput, extended, reading}
-use Rattle.machine.specs.Group.{shiftRotated, alterSkips, alterEnded, alterSkipped, longRotated}
-use Rattle.machine.specs.Strings.{touches, opensAll, presentAll, moving}
-use Rattle.machine.specs.Acts.{Result, exec, answer, left}
+use Rattle.effects.specs.Group.{shiftRotated, alterSkips, alterEnded, alterSkipped, longRotated}
+use Rattle.strings.specs.Strings.{touches, opensAll, presentAll, moving}
+use Rattle.acts.specs.Acts.{Result, exec, answer, left}
 use Rattle.machine.specs.Step.{stepped}
-use Rattle.machine.specs.declared.record.Registers.{Registers}
+use Rattle.acts.specs.declared.record.Registers.{Registers}
 use Rattle.cases.specs.Table.{Case, Meets, holding, result, table, c5}
 
 abbrev numbers : Registers → List ℕ

@@ -9,11 +9,11 @@ use mathlib.Core.Path.{_≡_}
 use mathlib.Core.Bool.{Bool, true, false}
 use mathlib.Core.List.{List, [], _∷_}
 use lib.ListN.{set, replicate}
-use Rattle.machine.specs.Replies.{number}
-use Rattle.machine.specs.Acts.{Result, answer, left}
+use Rattle.acts.specs.Replies.{number}
+use Rattle.acts.specs.Acts.{Result, answer, left}
 use Rattle.machine.specs.Step.{stepped}
-use Rattle.machine.specs.declared.record.Registers.{Registers}
-use Rattle.machine.specs.declared.replies.Stepped.{Stepped}
+use Rattle.acts.specs.declared.record.Registers.{Registers}
+use Rattle.acts.specs.declared.replies.Stepped.{Stepped}
 
 -- an address and its word
 pub record Cell : Type 0 where

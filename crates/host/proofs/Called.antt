@@ -5,11 +5,11 @@ use mathlib.Core.Path.{_≡_, refl, ap, _∙_}
 use mathlib.Core.List.{List, [], _∷_}
 use lib.ListN.{length, set}
 use borrow.Author.Tests.{eq-eqb, ne-eqb}
-use Rattle.machine.specs.Replies.{number}
+use Rattle.acts.specs.Replies.{number}
 use Rattle.machine.specs.Step.{Steps, Runs}
-use Rattle.machine.specs.declared.record.Registers.{Registers}
-use Rattle.machine.specs.declared.replies.Stepped.{Stepped}
-use Rattle.machine.specs.declared.replies.Ran.{Ran}
+use Rattle.acts.specs.declared.record.Registers.{Registers}
+use Rattle.acts.specs.declared.replies.Stepped.{Stepped}
+use Rattle.acts.specs.declared.replies.Ran.{Ran}
 use Rattle.host.specs.declared.record.Taken.the-variants.{Record, NoRecord}
 use Rattle.host.specs.Record.{wordsOf, registersOf}
 use Rattle.host.specs.Calls.{stepCall, Calls, runCall, RunCalls}

@@ -15,10 +15,10 @@ use lib.ListN.{length, getD, set, drop, drop-of-length-le}
 use lib.Seq.{drop-cons}
 use borrow.Author.Tests.{eqb-true, le-leb, leb-true}
 use Rattle.word.specs.Words.{weight}
-use Rattle.machine.specs.Replies.{number}
-use Rattle.machine.specs.Acts.{Result, done, violated, refused, answer, left}
+use Rattle.acts.specs.Replies.{number}
+use Rattle.acts.specs.Acts.{Result, done, violated, refused, answer, left}
 use Rattle.machine.specs.Step.{stepped}
-use Rattle.machine.specs.declared.record.Registers.{Registers}
+use Rattle.acts.specs.declared.record.Registers.{Registers}
 use Rattle.host.specs.declared.record.Taken.{Taken}
 use Rattle.host.specs.declared.record.Taken.the-variants.{Record, NoRecord}
 use Rattle.host.specs.Record.{wordsOf, isRecord, registersAt, registersOf}

@@ -10,7 +10,7 @@ use denote.Ref.{now}
 use contract.Lifetimes.{Lfts}
 use mathlib.Core.Path.{_≡_, sym, _∙_}
 use mathlib.Core.List.{List}
-use Rattle.machine.proofs.Tight.{OneMemory}
+use Rattle.acts.proofs.Tight.{OneMemory}
 use Rattle.host.specs.Calls.{Answered, Answers, Called, Calls}
 use Rattle.host.proofs.calls.a400_fresh.Kinds as fresh
 use Rattle.host.proofs.calls.a400_fresh.Reads as fresh-reads

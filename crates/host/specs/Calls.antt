@@ -12,12 +12,12 @@ use mathlib.Core.Bool.{cond}
 use mathlib.Core.List.{List, [], _∷_}
 use lib.Dec.{eqb}
 use lib.ListN.{length}
-use Rattle.machine.specs.Replies.{number}
-use Rattle.machine.specs.Record.{fresh}
-use Rattle.machine.specs.Acts.{answer, left}
+use Rattle.acts.specs.Replies.{number}
+use Rattle.acts.specs.Record.{fresh}
+use Rattle.acts.specs.Acts.{answer, left}
 use Rattle.machine.specs.Step.{stepped, ran, Leaves}
-use Rattle.machine.specs.declared.record.Registers.{Registers}
-use Rattle.machine.specs.declared.replies.Stepped.{Stepped}
+use Rattle.acts.specs.declared.record.Registers.{Registers}
+use Rattle.acts.specs.declared.replies.Stepped.{Stepped}
 use Rattle.host.specs.declared.record.Taken.the-variants.{Record, NoRecord}
 use Rattle.host.specs.Record.{wordsOf, registersOf}
 

@@ -11,7 +11,7 @@ use mathlib.Core.List.{List, [], _∷_}
 use lib.Dec.{eqb, leb}
 use lib.ListN.{length, getD}
 use Rattle.word.specs.Words.{weight}
-use Rattle.machine.specs.declared.record.Registers.{Registers}
+use Rattle.acts.specs.declared.record.Registers.{Registers}
 use Rattle.host.specs.declared.record.Taken.{Taken}
 use Rattle.host.specs.declared.record.Taken.the-variants.{Record, NoRecord}
 

@@ -2,8 +2,8 @@
 use crate::record::Taken;
 use crate::record::read_record;
 use crate::record::write_record;
-use machine::record::fresh_record;
-use machine::replies::number_of;
+use acts::record::fresh_record;
+use acts::replies::number_of;
 use machine::run::run;
 use machine::step::step;
 ghost use mathlib.Core.Path.{_≡_};

@@ -1,6 +1,6 @@
 // The register record as 14 lent words.
 use crate::words::copy_words;
-use machine::record::Registers;
+use acts::record::Registers;
 use word::bits::weight_of;
 ghost use mathlib.Core.Path.{_≡_};
 ghost use lib.ListN.{length};

@@ -9,10 +9,10 @@ use mathlib.Core.Bool.{Bool, cond, _&&_}
 use mathlib.Core.List.{List, [], _∷_, _++_}
 use lib.Dec.{eqb, leb}
 use lib.ListN.{length, getD}
-use Rattle.machine.specs.Record.{fresh}
+use Rattle.acts.specs.Record.{fresh}
 use Rattle.machine.specs.Step.{ran, Leaves}
-use Rattle.machine.specs.declared.replies.Reply.{Reply}
-use Rattle.machine.specs.declared.replies.Ran.{Ran}
+use Rattle.acts.specs.declared.replies.Reply.{Reply}
+use Rattle.acts.specs.declared.replies.Ran.{Ran}
 
 unfoldable pub tabulated : (ℕ → ℕ) → ℕ → List ℕ
 tabulated f zero = []

@@ -1,7 +1,7 @@
 // The words of an image, the page registers of a listing, and its run.
-use machine::record::fresh_record;
-use machine::replies::Ran;
-use machine::replies::Reply;
+use acts::record::fresh_record;
+use acts::replies::Ran;
+use acts::replies::Reply;
 ghost use mathlib.Core.Path.{_≡_};
 ghost use Prim.Native.Nat.{_+_, _*_};
 ghost use lib.ListN.{getD};

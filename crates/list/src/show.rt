@@ -1,7 +1,7 @@
 // Standard input run as an image, and its listing.
 use crate::image::run_image;
-use machine::replies::Ran;
-use machine::replies::number_of;
+use acts::replies::Ran;
+use acts::replies::number_of;
 use octal::print_bit;
 use octal::print_word;
 

@@ -14,15 +14,15 @@ use mathlib.Core.List.{List}
 use lib.Dec.{eqb, leb}
 use lib.ListN.{length}
 use Rattle.word.specs.Words.{weight}
-use Rattle.machine.specs.Replies.{number}
-use Rattle.machine.specs.Acts.{Ends, exec, answer, left}
-use Rattle.machine.specs.Rules.{stepAct}
+use Rattle.acts.specs.Replies.{number}
+use Rattle.acts.specs.Acts.{Ends, exec, answer, left}
+use Rattle.rules.specs.Rules.{stepAct}
 use Rattle.machine.specs.Step.{goodCall, stepped, Leaves, ending, counting, after, running, Goes, Steps}
-use Rattle.machine.specs.declared.record.Registers.{Registers}
-use Rattle.machine.specs.declared.replies.Reply.{Reply}
-use Rattle.machine.specs.declared.replies.Stepped.{Stepped}
-use Rattle.machine.specs.declared.replies.Ran.{Ran}
-use Rattle.machine.proofs.Valid.{good-stepped, good-kept}
+use Rattle.acts.specs.declared.record.Registers.{Registers}
+use Rattle.acts.specs.declared.replies.Reply.{Reply}
+use Rattle.acts.specs.declared.replies.Stepped.{Stepped}
+use Rattle.acts.specs.declared.replies.Ran.{Ran}
+use Rattle.machine.proofs.Good.{good-stepped, good-kept}
 
 abbrev pub plus : ℕ → Leaves → Leaves
 plus n l = ending (l .ran .reply) (n + l .ran .count) (l .ran .registers) (l .memory)

@@ -12,14 +12,14 @@ use mathlib.Core.List.{List}
 use lib.Dec.{eqb, leb}
 use lib.ListN.{length}
 use Rattle.word.specs.Words.{weight}
-use Rattle.machine.specs.Replies.{number}
-use Rattle.machine.specs.Record.{valid}
-use Rattle.machine.specs.Acts.{Result, refused, exec, answer, left}
-use Rattle.machine.specs.Rules.{stepAct}
-use Rattle.machine.specs.declared.record.Registers.{Registers}
-use Rattle.machine.specs.declared.replies.Reply.{Reply}
-use Rattle.machine.specs.declared.replies.Stepped.{Stepped}
-use Rattle.machine.specs.declared.replies.Ran.{Ran}
+use Rattle.acts.specs.Replies.{number}
+use Rattle.acts.specs.Record.{valid}
+use Rattle.acts.specs.Acts.{Result, refused, exec, answer, left}
+use Rattle.rules.specs.Rules.{stepAct}
+use Rattle.acts.specs.declared.record.Registers.{Registers}
+use Rattle.acts.specs.declared.replies.Reply.{Reply}
+use Rattle.acts.specs.declared.replies.Stepped.{Stepped}
+use Rattle.acts.specs.declared.replies.Ran.{Ran}
 
 -- 01: "Memory: lent 16-bit words, 1 to 16,384 whole pages of 1,024 words."
 abbrev pub wholePages : ℕ → Bool

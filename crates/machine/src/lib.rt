@@ -1,11 +1,3 @@
-pub mod errands;
-pub mod group;
-pub mod memory;
-pub mod moves;
-pub mod reads;
-pub mod record;
-pub mod replies;
+// One step, and a run of steps.
 pub mod run;
 pub mod step;
-pub mod strings;
-pub mod ways;

@@ -1,10 +1,10 @@
 // A run of steps, with a budget.
-use crate::record::Registers;
-use crate::replies::Ran;
-use crate::replies::Reply;
-use crate::replies::number_of;
-use crate::step::fetch;
 use crate::step::is_good_call;
+use acts::record::Registers;
+use acts::replies::Ran;
+use acts::replies::Reply;
+use acts::replies::number_of;
+use errands::perform::fetch;
 ghost use mathlib.Core.Path.{_≡_};
 ghost use mathlib.Core.Bool.{true};
 ghost use lib.Dec.{eqb};

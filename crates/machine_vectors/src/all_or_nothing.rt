@@ -5,7 +5,7 @@ use crate::state::plain;
 use crate::state::program;
 use crate::state::put;
 use crate::state::word;
-use machine::replies::number_of;
+use acts::replies::number_of;
 
 fn pattern(memory: &mut [u16]) {
     let mut i: u16 = 0;
@@ -49,7 +49,7 @@ fn moved(label: &[u8], wmap: u16, first: u16, second: u16, a: u16, b: u16) {
     put(&mut pages, 31, 2);
     pattern(&mut memory);
     pattern(&mut before);
-    let mut r = machine::record::fresh_record();
+    let mut r = acts::record::fresh_record();
     r.wmap = wmap;
     r.a = a;
     r.b = b;

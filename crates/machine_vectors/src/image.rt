@@ -2,7 +2,7 @@
 // record's order, the words of memory lent and the page registers lent.
 use crate::state::put;
 use crate::state::word;
-use machine::record::Registers;
+use acts::record::Registers;
 use word::sums::add;
 
 pub(crate) const PAGES_AT: u16 = 32768;

@@ -8,8 +8,8 @@ use crate::state::plain;
 use crate::state::program;
 use crate::state::put;
 use crate::state::word;
-use machine::replies::Stepped;
-use machine::replies::number_of;
+use acts::replies::Stepped;
+use acts::replies::number_of;
 use word::sums::add;
 
 const COUNT: u16 = 0o10;
@@ -36,7 +36,7 @@ fn moved(code: u16, from: u16, n: u16, memory: &mut [u16]) -> Stepped {
     plain(&mut pages);
     program(memory, code, COUNT, 0);
     put(memory, COUNT, n);
-    let mut r = machine::record::fresh_record();
+    let mut r = acts::record::fresh_record();
     r.a = from;
     r.b = plus(from, 1);
     machine::step::step(r, &mut pages, memory)

@@ -1,10 +1,10 @@
 // A vector's line: the reply, for a run ` after ` and its count, the registers P A B X Y E O WMAP IMAP
 // violation interrupt trap lights, and what has changed in memory and in the page registers.
 use crate::state::word;
-use machine::record::Registers;
-use machine::replies::Ran;
-use machine::replies::Stepped;
-use machine::replies::number_of;
+use acts::record::Registers;
+use acts::replies::Ran;
+use acts::replies::Stepped;
+use acts::replies::number_of;
 use octal::print_bit;
 use octal::print_word;
 use word::sums::add;

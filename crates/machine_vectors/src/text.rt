@@ -20,7 +20,7 @@ use crate::show::print_changes;
 use crate::show::print_ran;
 use crate::show::print_stepped;
 use crate::state::word;
-use machine::record::Registers;
+use acts::record::Registers;
 
 fn perform(l: Line, r: Registers, pages: &mut [u16], memory: &mut [u16]) {
     if is_step(l) {

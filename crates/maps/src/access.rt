@@ -35,7 +35,7 @@ pub fn read_word(
     }
 }
 
-// The one place where memory is written: the word at an index, and no other.
+// The word at an index is written, and no other.
 fn set_word(memory: &mut [u16], index: usize, value: u16)
     requires { ⌜ index < length (now memory) ⌝ }
     ensures { λ r. ⌜ now (memory .exit) ≡ set (now (memory .entry)) index value ⌝ }

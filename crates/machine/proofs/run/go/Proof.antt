@@ -9,8 +9,8 @@ use lib.ListN.{length}
 use borrow.Author.Needs.{needs}
 use borrow.Author.Tests.{eq-eqb, ne-eqb}
 use Rattle.machine.specs.Step.{goodCall, running, Leaves, Goes}
-use Rattle.machine.specs.declared.record.Registers.{Registers}
-use Rattle.machine.specs.declared.replies.Reply.{Reply}
+use Rattle.acts.specs.declared.record.Registers.{Registers}
+use Rattle.acts.specs.declared.replies.Reply.{Reply}
 use Rattle.machine.proofs.Running.{plus, plus-none, good-next, one-more, last-one}
 use Rattle.machine.proofs.run.go.Statement.{statement}
 use Rattle.machine.proofs.run.go.Tie as tie

@@ -1,0 +1,7 @@
+-- Laws of access programs that belong to no one function.
+--     Operands    how a program goes on past its reading parts, and past a store that is its last act
+--     Keeping     what every ending of a program keeps holds of its result
+--     Tight       each promise fixes its outcome
+pub mod Operands
+pub mod Keeping
+pub mod Tight

@@ -1,0 +1,133 @@
+// The register record, by value.
+use code::codes::Index;
+use code::codes::Register;
+use word::sums::past;
+ghost use mathlib.Core.Path.{_≡_};
+ghost use Prim.Native.Nat.{_+_};
+ghost use Rattle.word.specs.Words.{weight};
+ghost use Rattle.word.specs.Sums.{address};
+ghost use Rattle.acts.specs.Record.{inRegister, withRegister, inIndex, withIndex, withP, fresh, interrupted, ahead};
+
+pub struct Registers {
+    pub a: u16,
+    pub b: u16,
+    pub x: u16,
+    pub y: u16,
+    pub p: u16,
+    pub e: bool,
+    pub o: bool,
+    pub wmap: u16,
+    pub imap: u16,
+    pub violation: u16,
+    pub interrupt: u16,
+    pub trap: u16,
+    pub switches: u8,
+    pub lights: u8,
+}
+
+pub fn fresh_record() -> Registers
+    ensures { λ r. ⌜ r ≡ fresh ⌝ }
+{
+    Registers {
+        a: 0,
+        b: 0,
+        x: 0,
+        y: 0,
+        p: 2,
+        e: false,
+        o: false,
+        wmap: 0,
+        imap: 0,
+        violation: 0,
+        interrupt: 0,
+        trap: 0,
+        switches: 0,
+        lights: 0,
+    }
+}
+
+pub fn register(g: Register, r: Registers) -> u16
+    ensures { λ v. ⌜ v ≡ inRegister g r ⌝ }
+{
+    match g {
+        Register::A => r.a,
+        Register::B => r.b,
+    }
+}
+
+pub fn set_register(g: Register, r: Registers, v: u16) -> Registers
+    ensures { λ s. ⌜ s ≡ withRegister g r v ⌝ }
+{
+    let mut s = r;
+    match g {
+        Register::A => s.a = v,
+        Register::B => s.b = v,
+    }
+    s
+}
+
+pub fn index(i: Index, r: Registers) -> u16
+    ensures { λ v. ⌜ v ≡ inIndex i r ⌝ }
+{
+    match i {
+        Index::X => r.x,
+        Index::Y => r.y,
+    }
+}
+
+pub fn set_index(i: Index, r: Registers, v: u16) -> Registers
+    ensures { λ s. ⌜ s ≡ withIndex i r v ⌝ }
+{
+    let mut s = r;
+    match i {
+        Index::X => s.x = v,
+        Index::Y => s.y = v,
+    }
+    s
+}
+
+pub fn go_to(q: u16, r: Registers) -> Registers
+    ensures { λ s. ⌜ s ≡ withP r q ⌝ }
+{
+    let mut s = r;
+    s.p = q;
+    s
+}
+
+// P moved on by n words, in its 15 bits.
+pub fn go_ahead(n: u16, r: Registers) -> Registers
+    ensures { λ s. ⌜ s ≡ ahead n r ⌝ }
+{
+    let mut s = r;
+    s.p = past(r.p, n);
+    s
+}
+
+// The address n words past p, and one more where a skip is met.
+pub fn skipping(p: u16, n: u16, skip: bool) -> u16
+    ensures { λ q. ⌜ q ≡ address p (n + weight skip) ⌝ }
+{
+    past(past(p, n), word::bits::weight_of(skip))
+}
+
+// P moved on by n words, and one more where a skip is met.
+pub fn go_skipping(n: u16, skip: bool, r: Registers) -> Registers
+    ensures { λ s. ⌜ s ≡ ahead (n + weight skip) r ⌝ }
+{
+    let mut s = r;
+    s.p = skipping(r.p, n, skip);
+    s
+}
+
+// The interrupt state of a violation.
+pub(crate) fn interrupt(r: Registers) -> Registers
+    ensures { λ s. ⌜ s ≡ interrupted r ⌝ }
+{
+    let mut s = r;
+    s.violation = r.p;
+    s.interrupt = 7;
+    s.imap = r.wmap;
+    s.wmap = r.wmap / 1024 % 32 * 1024 + r.wmap % 32 * 32;
+    s.trap = 7;
+    s
+}

@@ -1,0 +1,20 @@
+-- `errands::words` meets its contract: each arm is the errand that the definition has there. Assumes nothing.
+use mathlib.Core.Path.{refl}
+use borrow.Author.Needs.{needs}
+use Rattle.errands.proofs.errands.words.Statement.{statement}
+use Rattle.errands.proofs.errands.words.Tie as tie
+
+enum-told : tie.Need-enum-told
+enum-told c = search needs
+
+enum-told-2 : tie.Need-enum-told-2
+enum-told-2 c = search needs
+
+returns : tie.Need-returns
+returns c = rw (c .enum-told .given .1) (λ r. refl)
+
+returns-2 : tie.Need-returns-2
+returns-2 c = rw (c .enum-told2 .given .1) (λ r. refl)
+
+pub words-spec : {M : Type 1} → statement M
+words-spec = tie.close (tie.spec enum-told enum-told-2 returns returns-2)

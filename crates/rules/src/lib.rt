@@ -1,0 +1,2 @@
+// What a memory reference and a trap cell stand for.
+pub mod memory;

@@ -1,0 +1,82 @@
+-- `moves::copy_one` meets its contract: by what the count and the move promise. Assumes nothing.
+use native.Mathlib.Omega.{arith}
+use borrow.Author.Needs.{needs}
+use Rattle.strings.proofs.moves.copy_one.Statement.{statement}
+use Rattle.strings.proofs.moves.copy_one.Tie as tie
+
+enum-told : tie.Need-enum-told
+enum-told c = search needs
+
+mul-memory : tie.Need-mul-memory
+mul-memory c = let h = rw (c .enum-told .given .1) at (c .before .before .before .pre) in omega arith
+
+slice-read-memory : tie.Need-slice-read-memory
+slice-read-memory c = let h = rw (c .before .enum-told .given .1) at (c .before .before .before .before .pre) in omega arith
+
+mul-memory-2 : tie.Need-mul-memory-2
+mul-memory-2 c = let h = rw (c .before .enum-told .given .1) at (c .before .before .before .before .pre) in omega arith
+
+slice-write-memory : tie.Need-slice-write-memory
+slice-write-memory c = let h = rw (c .before .enum-told .given .1) at (c .before .before .before .before .pre) in omega arith
+
+enum-told-2 : tie.Need-enum-told-2
+enum-told-2 c = search needs
+
+mul-byte-of : tie.Need-mul-byte-of
+mul-byte-of c = search needs
+
+slice-read-byte-of : tie.Need-slice-read-byte-of
+slice-read-byte-of c = let h = rw (c .before .enum-told2 .given .1) at (c .before .before .before .before .pre) in omega arith
+
+byte-of-requires : tie.Need-byte-of-requires
+byte-of-requires c κs = search needs
+
+mul-with-byte : tie.Need-mul-with-byte
+mul-with-byte c = search needs
+
+slice-read-with-byte : tie.Need-slice-read-with-byte
+slice-read-with-byte c = let h = rw (c .before .before .before .enum-told2 .given .1) at (c .before .before .before .before .before .before .pre) in omega arith
+
+with-byte-requires : tie.Need-with-byte-requires
+with-byte-requires c κs = search needs
+
+mul-memory-3 : tie.Need-mul-memory-3
+mul-memory-3 c = search needs
+
+slice-write-memory-2 : tie.Need-slice-write-memory-2
+slice-write-memory-2 c = let h = rw (c .before .before .before .before .enum-told2 .given .1) at (c .before .before .before .before .before .before .before .pre) in omega arith
+
+same-length : tie.Need-same-length
+same-length c = search needs
+
+returns : tie.Need-returns
+returns c = rw (c .before .enum-told .given .1)
+
+same-length-2 : tie.Need-same-length-2
+same-length-2 c = search needs
+
+returns-2 : tie.Need-returns-2
+returns-2 c = rw (c .before .before .before .before .enum-told2 .given .1, c .with-byte .ensures, c .before .before .byte-of .ensures)
+
+pub copy-one-spec : {M : Type 1} → statement M
+copy-one-spec =
+    tie.close
+    (tie.spec
+    enum-told
+    mul-memory
+    slice-read-memory
+    mul-memory-2
+    slice-write-memory
+    enum-told-2
+    mul-byte-of
+    slice-read-byte-of
+    byte-of-requires
+    mul-with-byte
+    slice-read-with-byte
+    with-byte-requires
+    mul-memory-3
+    slice-write-memory-2
+    same-length
+    returns
+    same-length-2
+    returns-2)

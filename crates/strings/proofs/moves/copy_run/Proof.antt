@@ -1,0 +1,37 @@
+-- `moves::copy_run` meets its contract: by what either copy promises. Assumes nothing.
+use borrow.Author.Needs.{needs}
+use Rattle.strings.proofs.moves.copy_run.Statement.{statement}
+use Rattle.strings.proofs.moves.copy_run.Tie as tie
+
+lie-alike-requires : tie.Need-lie-alike-requires
+lie-alike-requires c κs = search needs
+
+copy-bytes-requires : tie.Need-copy-bytes-requires
+copy-bytes-requires c κs = let h = c .before .before .lie-alike .ensures (c .before .if1 .taken) in let p = rw (h .0) at (c .before .before .before .before .pre) in (h .1, p .0, p .1)
+
+copy-each-requires : tie.Need-copy-each-requires
+copy-each-requires c κs = c .before .before .before .before .pre
+
+same-length : tie.Need-same-length
+same-length c = c .before .before .copy-bytes .kept .1 .1 .1 .0
+
+returns : tie.Need-returns
+returns c = rw (c .before .before .before .before .before .lie-alike .ensures (c .before .before .before .before .if1 .taken) .0) (c .before .before .copy-bytes .ensures)
+
+same-length-2 : tie.Need-same-length-2
+same-length-2 c = c .before .before .copy-each .kept .1 .1 .1 .1 .0
+
+returns-2 : tie.Need-returns-2
+returns-2 c = c .before .before .copy-each .ensures
+
+pub copy-run-spec : {M : Type 1} → statement M
+copy-run-spec =
+    tie.close
+    (tie.spec
+    lie-alike-requires
+    copy-bytes-requires
+    copy-each-requires
+    same-length
+    returns
+    same-length-2
+    returns-2)

@@ -1,0 +1,42 @@
+-- `moves::run_of` meets its contract: by what the count and the move promise. Assumes nothing.
+use native.Mathlib.Omega.{arith}
+use borrow.Author.Needs.{needs}
+use Rattle.strings.proofs.moves.run_of.Statement.{statement}
+use Rattle.strings.proofs.moves.run_of.Tie as tie
+
+enum-told : tie.Need-enum-told
+enum-told c = search needs
+
+sub-at-most : tie.Need-sub-at-most
+sub-at-most c = search needs
+
+at-most-requires : tie.Need-at-most-requires
+at-most-requires c κs = search needs
+
+enum-told-2 : tie.Need-enum-told-2
+enum-told-2 c = search needs
+
+sub-at-most-2 : tie.Need-sub-at-most-2
+sub-at-most-2 c = search needs
+
+at-most-requires-2 : tie.Need-at-most-requires-2
+at-most-requires-2 c κs = search needs
+
+returns : tie.Need-returns
+returns c = rw (c .before .enum-told .given .1) (record { within = c .at-most .ensures .1; page = omega (arith, c .at-most .ensures .0); some = λ l. c .at-most .ensures .2 (omega arith) l })
+
+returns-2 : tie.Need-returns-2
+returns-2 c = rw (c .before .enum-told2 .given .1) (record { within = c .at-most2 .ensures .1; page = omega (arith, c .at-most2 .ensures .0); some = λ l. c .at-most2 .ensures .2 (omega arith) l })
+
+pub run-of-spec : {M : Type 1} → statement M
+run-of-spec =
+    tie.close
+    (tie.spec
+    enum-told
+    sub-at-most
+    at-most-requires
+    enum-told-2
+    sub-at-most-2
+    at-most-requires-2
+    returns
+    returns-2)
