@@ -8,19 +8,21 @@ ghost use Rattle.word.specs.Words.{weight};
 ghost use Rattle.word.specs.Sums.{address};
 ghost use Rattle.acts.specs.Record.{inRegister, withRegister, inIndex, withIndex, withP, fresh, interrupted, ahead};
 
+// The order of the fields is no part of their meaning. In this one no register that most steps change lies
+// beside others that they leave, as such are copied as one number and taken apart again at each step.
 pub struct Registers {
     pub a: u16,
-    pub b: u16,
     pub x: u16,
     pub y: u16,
-    pub p: u16,
-    pub e: bool,
-    pub o: bool,
-    pub wmap: u16,
+    pub b: u16,
     pub imap: u16,
     pub violation: u16,
+    pub p: u16,
     pub interrupt: u16,
+    pub wmap: u16,
     pub trap: u16,
+    pub e: bool,
+    pub o: bool,
     pub switches: u8,
     pub lights: u8,
 }

@@ -31,6 +31,10 @@ use Rattle.code.proofs.codes.extended_length.Kinds as extended-length
 use Rattle.code.proofs.codes.extended_length.Reads as extended-length-reads
 use Rattle.code.proofs.codes.is_privileged.Kinds as is-privileged
 use Rattle.code.proofs.codes.is_privileged.Reads as is-privileged-reads
+use Rattle.code.proofs.instructions.shift_rotate_of.Kinds as shift-rotate-of
+use Rattle.code.proofs.instructions.shift_rotate_of.Reads as shift-rotate-of-reads
+use Rattle.code.proofs.instructions.alter_skip_of.Kinds as alter-skip-of
+use Rattle.code.proofs.instructions.alter_skip_of.Reads as alter-skip-of-reads
 use Rattle.code.proofs.instructions.read_instruction.Kinds as read-instruction
 use Rattle.code.proofs.instructions.read_instruction.Reads as read-instruction-reads
 use Rattle.code.proofs.instructions.write_instruction.Kinds as write-instruction
@@ -77,6 +81,12 @@ extended-length-tight κs a x y s t p q = p ∙ sym q
 
 pub is-privileged-tight : OneResult 0 is-privileged.ps is-privileged.r is-privileged-reads.Post
 is-privileged-tight κs a x y s t p q = p ∙ sym q
+
+pub shift-rotate-of-tight : OneResult 0 shift-rotate-of.ps shift-rotate-of.r shift-rotate-of-reads.Post
+shift-rotate-of-tight κs a x y s t p q = p ∙ sym q
+
+pub alter-skip-of-tight : OneResult 0 alter-skip-of.ps alter-skip-of.r alter-skip-of-reads.Post
+alter-skip-of-tight κs a x y s t p q = p ∙ sym q
 
 pub read-instruction-tight : OneResult 0 read-instruction.ps read-instruction.r read-instruction-reads.Post
 read-instruction-tight κs a x y s t p q = p ∙ sym q

@@ -123,9 +123,9 @@ unfoldable pub memoryReference : ℕ → Instruction
 memoryReference w = MemoryReference (operationAt (w / 0o4000 % 16)) (bit 15 w) (bit 10 w) (w % 0o2000)
 
 -- "First shift in bits 8 to 6, enabled by bit 9; CLE bit 5; SLA or SLB bit 3; second shift in bits 2 to 0, enabled by bit 4"
-unfoldable pub shiftRotate : ℕ → Instruction
-shiftRotate w =
-    ShiftRotate (record {
+abbrev pub shiftFields : ℕ → of-shift-rotate.ShiftRotate
+shiftFields w =
+    record {
       register = registerAt (w / 0o4000 % 2);
       enabled1 = bit 9 w;
       shift1 = shiftAt (w / 0o100 % 8);
@@ -133,12 +133,15 @@ shiftRotate w =
       sla = bit 3 w;
       enabled2 = bit 4 w;
       shift2 = shiftAt (w % 8);
-    })
+    }
+
+unfoldable pub shiftRotate : ℕ → Instruction
+shiftRotate w = ShiftRotate (shiftFields w)
 
 -- "bits 9 and 8 .., SEZ bit 5, bits 7 and 6 .., SSA bit 4, SLA bit 3, INA bit 2, SZA bit 1, RSS bit 0"
-unfoldable pub alterSkip : ℕ → Instruction
-alterSkip w =
-    AlterSkip (record {
+abbrev pub alterFields : ℕ → of-alter-skip.AlterSkip
+alterFields w =
+    record {
       register = registerAt (w / 0o4000 % 2);
       alter = alterAt (w / 0o400 % 4);
       sez = bit 5 w;
@@ -148,7 +151,10 @@ alterSkip w =
       ina = bit 2 w;
       sza = bit 1 w;
       rss = bit 0 w;
-    })
+    }
+
+unfoldable pub alterSkip : ℕ → Instruction
+alterSkip w = AlterSkip (alterFields w)
 
 -- "bits 5 to 0 the select code"; bits 11 and 9 are kept for every code
 unfoldable pub inputOutput : ℕ → Instruction

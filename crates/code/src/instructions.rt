@@ -17,7 +17,8 @@ use word::long::LongShift;
 use word::shifts::ShiftCode;
 ghost use mathlib.Core.Path.{_≡_};
 ghost use Prim.Native.Nat.{_≤_};
-ghost use Rattle.code.specs.Instructions.{flag, memoryReference, shiftRotate, alterSkip, inputOutput, extended, reading};
+ghost use Rattle.code.specs.Instructions.{flag, memoryReference, shiftFields, shiftRotate, alterFields, alterSkip};
+ghost use Rattle.code.specs.Instructions.{inputOutput, extended, reading};
 ghost use Rattle.code.specs.Instructions.{places, writeMemoryReference, writeShiftRotate, writeAlterSkip, writeInputOutput};
 ghost use Rattle.code.specs.Instructions.{writeLongShift, writeExtended, built, writeNotBuilt, writing};
 
@@ -123,13 +124,14 @@ fn read_memory_reference(word: u16) -> Instruction
     }
 }
 
-fn read_shift_rotate(word: u16) -> Instruction
-    ensures { λ r. ⌜ r ≡ shiftRotate word ⌝ }
+// The fields of a shift/rotate word, whatever the bits are that tell it for one.
+pub fn shift_rotate_of(word: u16) -> ShiftRotate
+    ensures { λ r. ⌜ r ≡ shiftFields word ⌝ }
 {
     let register = register_at(word / 0o4000 % 2);
     let shift1 = shift_at(word / 0o100 % 8);
     let shift2 = shift_at(word % 8);
-    Instruction::ShiftRotate(ShiftRotate {
+    ShiftRotate {
         register,
         enabled1: word / 0o1000 % 2 == 1,
         shift1,
@@ -137,16 +139,23 @@ fn read_shift_rotate(word: u16) -> Instruction
         sla: word / 0o10 % 2 == 1,
         enabled2: word / 0o20 % 2 == 1,
         shift2,
-    })
+    }
 }
 
-fn read_alter_skip(word: u16) -> Instruction
-    ensures { λ r. ⌜ r ≡ alterSkip word ⌝ }
+fn read_shift_rotate(word: u16) -> Instruction
+    ensures { λ r. ⌜ r ≡ shiftRotate word ⌝ }
+{
+    Instruction::ShiftRotate(shift_rotate_of(word))
+}
+
+// The fields of an alter/skip word, likewise.
+pub fn alter_skip_of(word: u16) -> AlterSkip
+    ensures { λ r. ⌜ r ≡ alterFields word ⌝ }
 {
     let register = register_at(word / 0o4000 % 2);
     let alter = alter_at(word / 0o400 % 4);
     let extend = alter_at(word / 0o100 % 4);
-    Instruction::AlterSkip(AlterSkip {
+    AlterSkip {
         register,
         alter,
         sez: word / 0o40 % 2 == 1,
@@ -156,7 +165,13 @@ fn read_alter_skip(word: u16) -> Instruction
         ina: word / 0o4 % 2 == 1,
         sza: word / 0o2 % 2 == 1,
         rss: word % 2 == 1,
-    })
+    }
+}
+
+fn read_alter_skip(word: u16) -> Instruction
+    ensures { λ r. ⌜ r ≡ alterSkip word ⌝ }
+{
+    Instruction::AlterSkip(alter_skip_of(word))
 }
 
 fn read_input_output(word: u16) -> Instruction

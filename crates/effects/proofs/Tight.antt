@@ -6,6 +6,18 @@ use mathlib.Core.Path.{sym, _∙_}
 use mathlib.Core.List.{[]}
 use Rattle.word.proofs.Tight.{OneResult}
 use Rattle.acts.proofs.Tight.{OneMemory, ends-tight}
+use Rattle.effects.proofs.group.shift_place.Kinds as shift-place
+use Rattle.effects.proofs.group.shift_place.Reads as shift-place-reads
+use Rattle.effects.proofs.group.alter_word.Kinds as alter-word
+use Rattle.effects.proofs.group.alter_word.Reads as alter-word-reads
+use Rattle.effects.proofs.group.alter_extend.Kinds as alter-extend
+use Rattle.effects.proofs.group.alter_extend.Reads as alter-extend-reads
+use Rattle.effects.proofs.group.is_met.Kinds as is-met
+use Rattle.effects.proofs.group.is_met.Reads as is-met-reads
+use Rattle.effects.proofs.ways.take_quotient.Kinds as take-quotient
+use Rattle.effects.proofs.ways.take_quotient.Reads as take-quotient-reads
+use Rattle.effects.proofs.ways.take_product.Kinds as take-product
+use Rattle.effects.proofs.ways.take_product.Reads as take-product-reads
 use Rattle.effects.proofs.group.shift_rotate.Kinds as shift-rotate
 use Rattle.effects.proofs.group.shift_rotate.Reads as shift-rotate-reads
 use Rattle.effects.proofs.group.alter_skip.Kinds as alter-skip
@@ -38,6 +50,24 @@ use Rattle.effects.proofs.ways.value_of.Kinds as value-of
 use Rattle.effects.proofs.ways.value_of.Reads as value-of-reads
 use Rattle.effects.proofs.ways.at_address.Kinds as at-address
 use Rattle.effects.proofs.ways.at_address.Reads as at-address-reads
+
+pub shift-place-tight : OneResult 0 shift-place.ps shift-place.r shift-place-reads.Post
+shift-place-tight κs a x y s t p q = p ∙ sym q
+
+pub alter-word-tight : OneResult 0 alter-word.ps alter-word.r alter-word-reads.Post
+alter-word-tight κs a x y s t p q = p ∙ sym q
+
+pub alter-extend-tight : OneResult 0 alter-extend.ps alter-extend.r alter-extend-reads.Post
+alter-extend-tight κs a x y s t p q = p ∙ sym q
+
+pub is-met-tight : OneResult 0 is-met.ps is-met.r is-met-reads.Post
+is-met-tight κs a x y s t p q = p ∙ sym q
+
+pub take-quotient-tight : OneResult 0 take-quotient.ps take-quotient.r take-quotient-reads.Post
+take-quotient-tight κs a x y s t p q = p ∙ sym q
+
+pub take-product-tight : OneResult 0 take-product.ps take-product.r take-product-reads.Post
+take-product-tight κs a x y s t p q = p ∙ sym q
 
 pub shift-rotate-tight : OneResult 0 shift-rotate.ps shift-rotate.r shift-rotate-reads.Post
 shift-rotate-tight κs a x y s t p q = p ∙ sym q

@@ -49,7 +49,7 @@ fn high_bit(w: u16) -> bool
 }
 
 // One of the two shifts, enabled or not.
-fn shift_place(enabled: bool, code: ShiftCode, w: u16, e: bool) -> Shifted
+pub fn shift_place(enabled: bool, code: ShiftCode, w: u16, e: bool) -> Shifted
     ensures { λ t. ⌜ t ≡ shiftPlace enabled code w e ⌝ }
 {
     if enabled {
@@ -72,7 +72,7 @@ pub fn shift_rotate(i: ShiftRotate, r: Registers) -> Registers
     go_skipping(1, skip, s)
 }
 
-fn alter_word(alter: Alter, w: u16) -> u16
+pub fn alter_word(alter: Alter, w: u16) -> u16
     ensures { λ v. ⌜ v ≡ altered alter w ⌝ }
 {
     match alter {
@@ -83,7 +83,7 @@ fn alter_word(alter: Alter, w: u16) -> u16
     }
 }
 
-fn alter_extend(alter: Alter, e: bool) -> bool
+pub fn alter_extend(alter: Alter, e: bool) -> bool
     ensures { λ f. ⌜ f ≡ extendAltered alter e ⌝ }
 {
     match alter {
@@ -105,7 +105,7 @@ fn pair_met(ssa: bool, sla: bool, minus: bool, odd: bool) -> bool
 }
 
 // Whether a condition is met, of E as given, the word before INA and the word after it.
-fn is_met(i: AlterSkip, e: bool, w: u16, u: u16) -> bool
+pub fn is_met(i: AlterSkip, e: bool, w: u16, u: u16) -> bool
     ensures { λ met. ⌜ met ≡ alterSkips i e w u ⌝ }
 {
     let minus = high_bit(w);

@@ -75,7 +75,7 @@ pub enum Way {
 }
 
 // E and O by a sum: neither is cleared.
-pub(crate) fn set_flags(t: word::sums::Sum, r: Registers) -> Registers
+pub fn set_flags(t: word::sums::Sum, r: Registers) -> Registers
     ensures { λ s. ⌜ s ≡ flagged t r ⌝ }
 {
     let mut s = r;
@@ -84,7 +84,7 @@ pub(crate) fn set_flags(t: word::sums::Sum, r: Registers) -> Registers
     s
 }
 
-fn take_quotient(q: Quotient, r: Registers) -> Registers
+pub fn take_quotient(q: Quotient, r: Registers) -> Registers
     ensures { λ s. ⌜ s ≡ quotient q r ⌝ }
 {
     let mut s = r;
@@ -99,7 +99,7 @@ fn take_quotient(q: Quotient, r: Registers) -> Registers
     s
 }
 
-fn take_product(t: Product, r: Registers) -> Registers
+pub fn take_product(t: Product, r: Registers) -> Registers
     ensures { λ s. ⌜ s ≡ withO (withB (withA r (t .a)) (t .b)) false ⌝ }
 {
     let mut s = r;
