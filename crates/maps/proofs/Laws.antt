@@ -23,7 +23,7 @@ use Rattle.maps.specs.Pages.{readProtected, protecting, physicalPage, pa
 use Rattle.maps.specs.Access.{held, fetched, put, numberFetched}
 use Rattle.maps.specs.Chains.{chased, executeWord, chain, numberChain}
 use Rattle.maps.specs.Open.{OpenTo, OpenToRead, OpenToStore, Agree}
-use Rattle.maps.proofs.Behind.{never, in-memory, or-true, or-left, or-right, and-left, and-right, both-open, number-of, closed-by, reached-by, absent-by, whole, beyond, fifteen-register, fifteen-page, held-same, held-word, held-closed, held-absent, held-number, held-range, set-cases, set-either, chased-ends, chased-itself, chased-all}
+use Rattle.maps.proofs.Behind.{never, in-memory, or-true, or-left, or-right, and-left, and-right, both-open, number-of, closed-by, reached-by, absent-by, whole, beyond, fifteen-register, fifteen-page, held-same, held-word, held-closed, held-absent, held-number, held-range, set-cases, set-either, chased-ends, chased-on, chased-itself, chased-all}
 use Rattle.maps.specs.declared.pages.Map.{Map}
 use Rattle.maps.specs.declared.pages.Purpose.{Purpose}
 use Rattle.maps.specs.declared.pages.Place.{Place}
@@ -377,6 +377,14 @@ module _ (pages : List ℕ) (wmap : ℕ) where
       → chain pages memory wmap word a b ≡ Chain.Address (word % 0o100000)
   unfolding chain
   chain-direct memory word a b e = chased-ends _ 32768 word e
+
+  -- a chain of one level
+  pub chain-once : (memory : List ℕ) (word next a b : ℕ) → bit 15 word ≡ true
+      → fetched pages memory wmap Map.Execute word a b ≡ Fetched.Word next → bit 15 next ≡ false
+      → chain pages memory wmap word a b ≡ Chain.Address (next % 0o100000)
+  unfolding chain
+  chain-once memory word next a b e f g =
+      chased-on (executeWord pages memory wmap a b) 32767 word e ∙ rw f (chased-ends (executeWord pages memory wmap a b) 32767 next g)
 
   -- a cell that names itself is endless
   pub chain-itself : (memory : List ℕ) (word a b : ℕ) → bit 15 word ≡ true

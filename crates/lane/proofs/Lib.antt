@@ -1,0 +1,5 @@
+-- Laws of this crate that belong to no one function. Assumes nothing.
+--     Groups  shift/rotate and alter/skip by their parts
+--     Ways    how a step, or a way at an address, is completed
+pub mod Groups
+pub mod Ways

@@ -1,0 +1,2 @@
+-- What the functions of this crate promise. Assumes nothing.
+pub mod Lane
