@@ -3,11 +3,13 @@
 --     going-on, going-out    a step that replied 0, and one that did not
 --     good-next              the call stays good
 --     one-more, last-one     the same after steps of a budget
+--     rolled, rolling        steps of the lane
 --     one-step               a run of one step is a step
 -- Assumes nothing.
-use Prim.Native.Nat.{ℕ, suc, _+_, _-_, _<_}
+use Prim.Native.Nat.{ℕ, suc, _+_, _-_, _<_, _≤_}
 use native.Mathlib.Omega.{arith}
-use native.Mathlib.Nat.{zero-add, add-assoc}
+use native.Mathlib.Nat.{zero-add, add-assoc, suc-add, add-suc}
+use native.Mathlib.Numerals.{add-one}
 use mathlib.Core.Path.{_≡_, refl, sym, ap, ap₂, _∙_}
 use mathlib.Core.Bool.{true, false}
 use mathlib.Core.List.{List}
@@ -17,6 +19,7 @@ use Rattle.word.specs.Words.{weight}
 use Rattle.acts.specs.Replies.{number}
 use Rattle.acts.specs.Acts.{Ends, exec, answer, left}
 use Rattle.rules.specs.Rules.{stepAct}
+use Rattle.lane.specs.Lane.{Rolls, none, one-more as more-by-one}
 use Rattle.machine.specs.Step.{goodCall, stepped, Leaves, ending, counting, after, running, Goes, Steps}
 use Rattle.acts.specs.declared.record.Registers.{Registers}
 use Rattle.acts.specs.declared.replies.Reply.{Reply}
@@ -69,6 +72,32 @@ module _ (pages : List ℕ) (r : Registers) (m : List ℕ) (good : goodCall (len
     pub last-one : eqb (number (t .reply)) 0 ≡ false
         → start ≡ plus count (ending (t .reply) (weight (eqb (number (t .reply)) 1)) (t .registers) later)
     last-one h = before ∙ ap (plus count) (going-out (budget - (count + 1)) h)
+
+-- Steps of the lane, one after another: they are steps of the run, and the call stays good.
+pub record Rolled-on (pages : List ℕ) (r : Registers) (m : List ℕ) (count : ℕ) (s : Registers) (n : List ℕ) : Type 0 where
+  pub good : goodCall (length pages) (length n) s ≡ true
+  pub goes : (left : ℕ) → running pages (count + left) r m ≡ plus count (running pages left s n)
+
+pub rolled : {pages m n : List ℕ} {r s : Registers} {count : ℕ} → goodCall (length pages) (length m) r ≡ true
+    → Rolls pages r m count s n → Rolled-on pages r m count s n
+rolled good none = record { good = good; goes = λ left. rw zero-add (plus-none _) }
+rolled {pages} {m} {n = later} {r} {s = t} good (more-by-one {count = k} {s = s} {n = n} h e) =
+    let before = rolled good h in
+    let done : Ends s n (exec pages (stepAct s) s n) (record { reply = Reply.Completed; registers = t }) later = rw e (record { outcome = refl; memory = refl }) in
+    record {
+      good = good-next pages s n (before .good) (record { reply = Reply.Completed; registers = t }) later done;
+      goes = λ left. rw (suc-add, ← add-suc)
+          (before .goes (suc left) ∙ ap (plus k) (going-on pages s n (before .good) (record { reply = Reply.Completed; registers = t }) later done left refl)
+          ∙ plus-one k (running pages left t later) ∙ rw add-one);
+    }
+
+-- after `count` steps of a budget, those of the lane
+pub rolling : {pages m n : List ℕ} {r s : Registers} {start : Leaves} (budget count more : ℕ) → count ≤ budget → more ≤ budget - count
+    → start ≡ plus count (running pages (budget - count) r m) → Rolled-on pages r m more s n
+    → start ≡ plus (count + more) (running pages (budget - (count + more)) s n)
+rolling {pages} {m} {n} {r} {s} budget count more l k e h =
+    let q : budget - count ≡ more + (budget - (count + more)) = omega arith in
+    e ∙ ap (λ (j : ℕ). plus count (running pages j r m)) q ∙ ap (plus count) (h .goes (budget - (count + more))) ∙ rw add-assoc
 
 after-one : (reply : Reply) (s : Registers) (later : List ℕ)
     → after (record { reply = reply; registers = s }) later (ending Reply.Completed 0 s later) ≡ ending reply (weight (leb (number reply) 1)) s later

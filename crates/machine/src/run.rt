@@ -5,13 +5,15 @@ use acts::replies::Ran;
 use acts::replies::Reply;
 use acts::replies::number_of;
 use errands::perform::fetch;
+use lane::lane::lane;
 ghost use mathlib.Core.Path.{_≡_};
 ghost use mathlib.Core.Bool.{true};
 ghost use lib.Dec.{eqb};
 ghost use lib.ListN.{length};
 ghost use Rattle.machine.specs.Step.{goodCall, running, Leaves, Runs, Goes};
 
-// The steps of a good call: a step keeps the call good, so it is not tested again.
+// The steps of a good call: a step keeps the call good, so it is not tested again. Frequent steps go by the
+// lane, and what it leaves by the general step.
 pub(crate) fn go(budget: u32, r: Registers, pages: &[u16], memory: &mut [u16]) -> Ran
     requires { ⌜ goodCall (length (now pages)) (length (now memory)) r ≡ true ⌝ }
     ensures { λ s. ⌜ Goes (running (now (pages .entry)) budget r (now (memory .entry))) s (now (memory .exit)) ⌝ }
@@ -19,6 +21,16 @@ pub(crate) fn go(budget: u32, r: Registers, pages: &[u16], memory: &mut [u16]) -
     let mut s = r;
     let mut count: u32 = 0;
     while count < budget {
+        let l = lane(budget - count, s, pages, memory);
+        s = l.registers;
+        count += l.count;
+        if count >= budget {
+            return Ran {
+                reply: Reply::Completed,
+                count: count,
+                registers: s,
+            };
+        }
         let t = fetch(s, pages, memory);
         let reply = t.reply;
         let n = number_of(reply);
