@@ -54,8 +54,8 @@ pub struct Machine<'m> {
     pub trap: u16,
     pub switches: u16,
     pub lights: u16,
-    pages: &'m [u16; PAGE_REGISTERS],
-    memory: &'m mut [u16],
+    pub pages: &'m [u16; PAGE_REGISTERS],
+    pub memory: &'m mut [u16],
 }
 
 // ---------------------------------------------------------------------------
