@@ -7,18 +7,15 @@ const MBT: u16 = 0o105765;
 
 // Carries out the next step if it is a move that meets no trouble.
 pub fn moved(machine: &mut Machine) -> bool {
-    let Machine { a, b, x, y, p, e, o, wmap, trap, .. } = *machine;
-    let now = Registers { a, b, x, y, p, e, o };
-    let mut lent = Lent {
-        map: usize::from(wmap & 31) << 5,
-        guard: if wmap & SIGN != 0 { 0o140000 } else { 0 },
-        pages: machine.pages,
-        memory: machine.memory,
-    };
-    let word = if trap == 0 { now.read(&lent, p) } else { None };
+    if machine.trap != 0 {
+        return false;
+    }
+    let now = Registers::of(machine);
+    let mut lent = Lent::by(machine);
+    let word = now.read(&lent, now.p);
     let ends = match word {
-        Some(MVW) => block(&now, &mut lent, a & ADDRESS, b & ADDRESS, 0),
-        Some(MBT) => block(&now, &mut lent, a, b, 1),
+        Some(MVW) => block(&now, &mut lent, now.a & ADDRESS, now.b & ADDRESS, 0),
+        Some(MBT) => block(&now, &mut lent, now.a, now.b, 1),
         _ => return false,
     };
     let Some((a, b)) = ends else {
@@ -26,7 +23,7 @@ pub fn moved(machine: &mut Machine) -> bool {
     };
     machine.a = a;
     machine.b = b;
-    machine.p = p.wrapping_add(3) & ADDRESS;
+    machine.p = now.p.wrapping_add(3) & ADDRESS;
     true
 }
 

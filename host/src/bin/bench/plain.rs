@@ -11,14 +11,10 @@ const TO_READ: u16 = 0o100000;
 const TO_STORE: u16 = 0o040000;
 
 pub fn step(record: &mut [u16], pages: &mut [u16], memory: &mut [u16]) -> u32 {
-    let Some(mut machine) = Machine::lend(record, pages, memory) else {
-        return 8;
-    };
-    let (reply, _) = go(&mut machine, 1);
-    record.copy_from_slice(&machine.record());
-    reply
+    run(record, pages, memory, 1, &mut [0])
 }
 
+#[inline(always)]
 pub fn run(record: &mut [u16], pages: &mut [u16], memory: &mut [u16], budget: u32, count: &mut [u32]) -> u32 {
     let [count] = count else {
         return 8;
@@ -30,22 +26,30 @@ pub fn run(record: &mut [u16], pages: &mut [u16], memory: &mut [u16], budget: u3
     let Some(mut machine) = Machine::lend(record, pages, memory) else {
         return 8;
     };
-    let (reply, steps) = go(&mut machine, budget);
+    let mut now = Registers::of(&machine);
+    let left = if machine.trap == 0 { quick(&mut now, &mut Lent::by(&mut machine), budget) } else { budget };
+    if left == 0 {
+        // Of a record whose frequent registers alone have changed.
+        let Registers { a, b, x, y, p, e, o } = now;
+        for (word, given) in record.iter_mut().zip([a, b, x, y, p, e.into(), o.into()]) {
+            *word = given;
+        }
+        *count = budget;
+        return 0;
+    }
+    now.give_back(&mut machine);
+    let (reply, steps) = go(&mut machine, left);
     record.copy_from_slice(&machine.record());
-    *count = steps;
+    *count = budget - left + steps;
     reply
 }
 
-// The reply and the number of steps that replied 0 or 1.
+// Steps of which the first is not a frequent one: the reply, and the number of
+// steps that replied 0 or 1.
+#[inline(never)]
 fn go(machine: &mut Machine, budget: u32) -> (u32, u32) {
     let mut left = budget;
-    loop {
-        if machine.trap == 0 {
-            left = quick(machine, left);
-        }
-        if left == 0 {
-            return (0, budget);
-        }
+    while left > 0 {
         if !blocks::moved(machine) {
             match machine.step() {
                 0 => {}
@@ -54,7 +58,13 @@ fn go(machine: &mut Machine, budget: u32) -> (u32, u32) {
             }
         }
         left -= 1;
+        if machine.trap == 0 {
+            let mut now = Registers::of(machine);
+            left = quick(&mut now, &mut Lent::by(machine), left);
+            now.give_back(machine);
+        }
     }
+    (0, budget)
 }
 
 // ---------------------------------------------------------------------------
@@ -69,14 +79,29 @@ struct Lent<'m> {
     memory: &'m mut [u16],
 }
 
-impl Lent<'_> {
-    // The index in memory of an address, if the page is open and there.
+impl<'m> Lent<'m> {
+    #[inline(always)]
+    fn by(machine: &'m mut Machine) -> Lent<'m> {
+        Lent {
+            map: usize::from(machine.wmap & 31) << 5,
+            guard: if machine.wmap & SIGN != 0 { 0o140000 } else { 0 },
+            pages: machine.pages,
+            memory: machine.memory,
+        }
+    }
+
     #[inline(always)]
     fn reach(&self, address: u16, rights: u16) -> Option<usize> {
-        let register = self.pages[(self.map | usize::from(address >> 10)) & 1023];
-        let index = usize::from(register & 0o37777) << 10 | usize::from(address & 0o1777);
-        (register & rights & self.guard == 0 && index < self.memory.len()).then_some(index)
+        reach(self.map, self.guard, self.pages, self.memory.len(), address, rights)
     }
+}
+
+// The index in memory of an address, if the page is open and there.
+#[inline(always)]
+fn reach(map: usize, guard: u16, pages: &[u16; 1024], length: usize, address: u16, rights: u16) -> Option<usize> {
+    let register = pages[(map | usize::from(address >> 10)) & 1023];
+    let index = usize::from(register & 0o37777) << 10 | usize::from(address & 0o1777);
+    (register & rights & guard == 0 && index < length).then_some(index)
 }
 
 #[derive(Clone, Copy)]
@@ -92,6 +117,23 @@ struct Registers {
 
 impl Registers {
     #[inline(always)]
+    fn of(machine: &Machine) -> Registers {
+        let Machine { a, b, x, y, p, e, o, .. } = *machine;
+        Registers { a, b, x, y, p, e, o }
+    }
+
+    #[inline(always)]
+    fn give_back(&self, machine: &mut Machine) {
+        machine.a = self.a;
+        machine.b = self.b;
+        machine.x = self.x;
+        machine.y = self.y;
+        machine.p = self.p;
+        machine.e = self.e;
+        machine.o = self.o;
+    }
+
+    #[inline(always)]
     fn read(&self, lent: &Lent, address: u16) -> Option<u16> {
         if address < 2 {
             return Some(if address == 0 { self.a } else { self.b });
@@ -99,14 +141,17 @@ impl Registers {
         Some(lent.memory[lent.reach(address, TO_READ)?])
     }
 
-    // A word at an address that another word gives, at once or by one level.
+    // The address that a word leads to.
     #[inline(always)]
     fn lead(&self, lent: &Lent, word: u16) -> Option<u16> {
         if word & SIGN == 0 {
             return Some(word);
         }
         let next = self.read(lent, word & ADDRESS)?;
-        (next & SIGN == 0).then_some(next)
+        if next & SIGN == 0 {
+            return Some(next);
+        }
+        follow(lent.map, lent.guard, lent.pages, lent.memory, [self.a, self.b], next)
     }
 
     #[inline(always)]
@@ -139,41 +184,47 @@ impl Registers {
         self.p = self.p.wrapping_add(words) & ADDRESS;
     }
 
-    // A skip stays a branch, so that the next fetch need not wait for it.
+    // A skip is made to stay a branch, so that the next fetch need not wait for
+    // the operand.
     #[inline(always)]
     fn skip_if(&mut self, skip: bool) {
         if skip {
-            self.advance(2);
+            self.advance(std::hint::black_box(2));
         } else {
             self.advance(1);
         }
     }
 }
 
+// The end of a chain from its second level on. One that has no end is left to
+// the paper's step.
+#[inline(never)]
+fn follow(map: usize, guard: u16, pages: &[u16; 1024], memory: &[u16], ab: [u16; 2], second: u16) -> Option<u16> {
+    let mut word = second;
+    for _ in 1..32_768 {
+        let address = word & ADDRESS;
+        word = if address < 2 {
+            ab[usize::from(address)]
+        } else {
+            memory[reach(map, guard, pages, memory.len(), address, TO_READ)?]
+        };
+        if word & SIGN == 0 {
+            return Some(word);
+        }
+    }
+    None
+}
+
 // ---------------------------------------------------------------------------
 // The frequent instructions.
 
 // Carries out steps until one is not frequent. Returns how many are left.
-fn quick(machine: &mut Machine, budget: u32) -> u32 {
-    let mut now =
-        Registers { a: machine.a, b: machine.b, x: machine.x, y: machine.y, p: machine.p, e: machine.e, o: machine.o };
-    let mut lent = Lent {
-        map: usize::from(machine.wmap & 31) << 5,
-        guard: if machine.wmap & SIGN != 0 { 0o140000 } else { 0 },
-        pages: machine.pages,
-        memory: machine.memory,
-    };
+#[inline(always)]
+fn quick(now: &mut Registers, lent: &mut Lent, budget: u32) -> u32 {
     let mut left = budget;
-    while left > 0 && one(&mut now, &mut lent).is_some() {
+    while left > 0 && one(now, lent).is_some() {
         left -= 1;
     }
-    machine.a = now.a;
-    machine.b = now.b;
-    machine.x = now.x;
-    machine.y = now.y;
-    machine.p = now.p;
-    machine.e = now.e;
-    machine.o = now.o;
     left
 }
 
