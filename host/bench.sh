@@ -7,7 +7,11 @@ cd "$here"
 echo "code of the library, in bytes:"
 size -t "$library/libhost.a" | awk 'END { print "  text " $1 ", data " $2 ", bss " $3 }'
 if [ "$emulated" = yes ]; then
-    echo "the library runs under an emulator here, so that times and stack say nothing"
-    exit 0
+    if ! A400_LIB_DIR=$("$here/far/native.sh"); then
+        echo "the library runs under an emulator here, so that times and stack say nothing"
+        exit 0
+    fi
+    export A400_LIB_DIR
+    echo "timed: the sources of this repository, compiled for this processor from the library's LLVM module"
 fi
 cargo run --release --quiet --bin bench
