@@ -1,14 +1,15 @@
 -- A run, one step after another: what a step's answer makes of the steps that are left.
---     plus                   steps that were counted before
 --     going-on, going-out    a step that replied 0, and one that did not
 --     good-next              the call stays good
---     one-more, last-one     the same after steps of a budget
+--     turn-on, turn-out      the same after steps of a budget
+--     finished               the budget is spent
+--     entered-none, entered-one, ended-at-once    the first step
 --     rolled, rolling        steps of the lane
 --     one-step               a run of one step is a step
 -- Assumes nothing.
 use Prim.Native.Nat.{ℕ, suc, _+_, _-_, _<_, _≤_}
 use native.Mathlib.Omega.{arith}
-use native.Mathlib.Nat.{zero-add, add-assoc, suc-add, add-suc}
+use native.Mathlib.Nat.{zero-add, add-zero, sub-zero, add-assoc, suc-add, add-suc}
 use native.Mathlib.Numerals.{add-one}
 use mathlib.Core.Path.{_≡_, refl, sym, ap, ap₂, _∙_}
 use mathlib.Core.Bool.{true, false}
@@ -20,15 +21,14 @@ use Rattle.acts.specs.Replies.{number}
 use Rattle.acts.specs.Acts.{Ends, exec, answer, left}
 use Rattle.rules.specs.Rules.{stepAct}
 use Rattle.lane.specs.Lane.{Rolls, none, one-more as more-by-one}
+use Rattle.machine.specs.Turns.{plus, Turned}
 use Rattle.machine.specs.Step.{goodCall, stepped, Leaves, ending, counting, after, running, Goes, Steps}
 use Rattle.acts.specs.declared.record.Registers.{Registers}
 use Rattle.acts.specs.declared.replies.Reply.{Reply}
 use Rattle.acts.specs.declared.replies.Stepped.{Stepped}
 use Rattle.acts.specs.declared.replies.Ran.{Ran}
+use Rattle.machine.specs.declared.run.Turn.{Turn}
 use Rattle.machine.proofs.Good.{good-stepped, good-kept}
-
-abbrev pub plus : ℕ → Leaves → Leaves
-plus n l = ending (l .ran .reply) (n + l .ran .count) (l .ran .registers) (l .memory)
 
 pub plus-none : (l : Leaves) → l ≡ plus 0 l
 plus-none l = rw zero-add
@@ -58,20 +58,49 @@ module _ (pages : List ℕ) (r : Registers) (m : List ℕ) (good : goodCall (len
   pub good-next : goodCall (length pages) (length later) (t .registers) ≡ true
   good-next = rw (outcome, memory) at (good-kept pages r m good)
 
-  -- after `count` steps of a budget, one more
-  module _ (budget count : ℕ) (few : count < budget) (start : Leaves) (so-far : start ≡ plus count (running pages (budget - count) r m)) where
-    before : start ≡ plus count (running pages (suc (budget - (count + 1))) r m)
-    before =
-        let e : budget - count ≡ suc (budget - (count + 1)) = omega arith in
-        so-far ∙ ap (λ (n : ℕ). plus count (running pages n r m)) e
+-- after `count` steps of a budget, one more, which goes on or ends the run
+module _ (pages m n : List ℕ) (r : Registers) {start : Leaves} (budget count : ℕ) (few : count < budget)
+    (so-far : start ≡ plus count (running pages (budget - count) r m)) where
+  before : start ≡ plus count (running pages (suc (budget - (count + 1))) r m)
+  before =
+      let e : budget - count ≡ suc (budget - (count + 1)) = omega arith in
+      so-far ∙ ap (λ (k : ℕ). plus count (running pages k r m)) e
 
-    pub one-more : eqb (number (t .reply)) 0 ≡ true → start ≡ plus (count + 1) (running pages (budget - (count + 1)) (t .registers) later)
-    one-more h =
-        before ∙ ap (plus count) (going-on (budget - (count + 1)) h) ∙ plus-one count (running pages (budget - (count + 1)) (t .registers) later)
+  pub turn-on : (s : Registers) → ((left : ℕ) → running pages (suc left) r m ≡ counting (running pages left s n))
+      → start ≡ plus (count + 1) (running pages (budget - (count + 1)) s n)
+  turn-on s h = before ∙ ap (plus count) (h (budget - (count + 1))) ∙ plus-one count (running pages (budget - (count + 1)) s n)
 
-    pub last-one : eqb (number (t .reply)) 0 ≡ false
-        → start ≡ plus count (ending (t .reply) (weight (eqb (number (t .reply)) 1)) (t .registers) later)
-    last-one h = before ∙ ap (plus count) (going-out (budget - (count + 1)) h)
+  pub turn-out : {x : Ran} → ((left : ℕ) → running pages (suc left) r m ≡ record { ran = x; memory = n })
+      → start ≡ plus count (record { ran = x; memory = n })
+  turn-out h = before ∙ ap (plus count) (h (budget - (count + 1)))
+
+-- the budget is spent
+pub finished : (pages : List ℕ) (budget count : ℕ) (r : Registers) {m : List ℕ} {l : Leaves} → count ≡ budget
+    → l ≡ plus count (running pages (budget - count) r m) → Goes l (record { reply = Reply.Completed; count = count; registers = r }) m
+unfolding running
+finished pages budget count r {m} {l} e h =
+    let z : budget - count ≡ 0 = omega arith in
+    record { outcome = rw (h, z, add-zero); memory = rw (h, z) }
+
+-- the first step of a run, where a trap waits, or none
+pub record Entered (pages : List ℕ) (budget : ℕ) (r : Registers) (m : List ℕ) (s : Registers) (n : List ℕ) (count : ℕ) : Type 0 where
+  pub few : count ≤ budget
+  pub good : goodCall (length pages) (length n) s ≡ true
+  pub goes : running pages budget r m ≡ plus count (running pages (budget - count) s n)
+
+pub entered-none : {pages m : List ℕ} {r : Registers} (budget : ℕ) → goodCall (length pages) (length m) r ≡ true → Entered pages budget r m r m 0
+entered-none budget good = record { few = omega arith; good = good; goes = rw sub-zero (plus-none _) }
+
+pub entered-one : {pages m n : List ℕ} {r s : Registers} (budget : ℕ) → (budget ≡ 0 → ⊥) → Turned pages r m (Turn.On s) n → Entered pages budget r m s n 1
+entered-one {pages} {m} {n} {r} {s} budget some h =
+    record { few = omega arith; good = h .0; goes = turn-on pages m n r budget 0 (omega arith) (rw sub-zero (plus-none _)) s (h .1) }
+
+pub ended-at-once : (pages m n : List ℕ) (r : Registers) {x : Ran} (budget : ℕ) → (budget ≡ 0 → ⊥) → Turned pages r m (Turn.Ended x) n
+    → Goes (running pages budget r m) x n
+ended-at-once pages m n r budget some h =
+    let q : budget ≡ suc (budget - 1) = omega arith in
+    let e = ap (λ (k : ℕ). running pages k r m) q ∙ h .1 (budget - 1) in
+    record { outcome = sym (ap (λ (l : Leaves). l .ran) e); memory = sym (ap (λ (l : Leaves). l .memory) e) }
 
 -- Steps of the lane, one after another: they are steps of the run, and the call stays good.
 pub record Rolled-on (pages : List ℕ) (r : Registers) (m : List ℕ) (count : ℕ) (s : Registers) (n : List ℕ) : Type 0 where

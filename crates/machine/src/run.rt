@@ -9,17 +9,72 @@ use lane::lane::lane;
 ghost use mathlib.Core.Path.{_≡_};
 ghost use mathlib.Core.Bool.{true};
 ghost use lib.Dec.{eqb};
+ghost use Prim.Native.Nat.{_≤_, _-_};
 ghost use lib.ListN.{length};
 ghost use Rattle.machine.specs.Step.{goodCall, running, Leaves, Runs, Goes};
+ghost use Rattle.machine.specs.Turns.{Turned, plus};
 
-// The steps of a good call: a step keeps the call good, so it is not tested again. Frequent steps go by the
-// lane, and what it leaves by the general step.
-pub(crate) fn go(budget: u32, r: Registers, pages: &[u16], memory: &mut [u16]) -> Ran
+// The same record, made field by field: a call that takes it then leaves the caller's own in the processor's registers.
+fn apart(r: Registers) -> Registers
+    ensures { λ s. ⌜ s ≡ r ⌝ }
+{
+    Registers {
+        a: r.a,
+        x: r.x,
+        y: r.y,
+        b: r.b,
+        imap: r.imap,
+        violation: r.violation,
+        p: r.p,
+        interrupt: r.interrupt,
+        wmap: r.wmap,
+        trap: r.trap,
+        e: r.e,
+        o: r.o,
+        switches: r.switches,
+        lights: r.lights,
+    }
+}
+
+// What one step makes of a run: it goes on, or it has ended with this step.
+pub enum Turn {
+    On(Registers),
+    Ended(Ran),
+}
+
+// One step by the general way. The call is good.
+fn take_turn(r: Registers, pages: &[u16], memory: &mut [u16]) -> Turn
     requires { ⌜ goodCall (length (now pages)) (length (now memory)) r ≡ true ⌝ }
-    ensures { λ s. ⌜ Goes (running (now (pages .entry)) budget r (now (memory .entry))) s (now (memory .exit)) ⌝ }
+    ensures { λ t. ⌜ Turned (now (pages .entry)) r (now (memory .entry)) t (now (memory .exit)) ⌝ }
+{
+    let t = fetch(r, pages, memory);
+    let reply = t.reply;
+    let s = t.registers;
+    let n = number_of(reply);
+    if n == 0 {
+        return Turn::On(s);
+    }
+    if n == 1 {
+        return Turn::Ended(Ran {
+            reply: reply,
+            count: 1,
+            registers: s,
+        });
+    }
+    Turn::Ended(Ran {
+        reply: reply,
+        count: 0,
+        registers: s,
+    })
+}
+
+// The steps that are left of a budget. Frequent steps go by the lane, and what it leaves by the general step.
+fn go_on(budget: u32, from: u32, r: Registers, pages: &[u16], memory: &mut [u16]) -> Ran
+    requires { ⌜ (from ≤ budget) × (goodCall (length (now pages)) (length (now memory)) r ≡ true) ⌝ }
+    ensures { λ s. ⌜ Goes (plus from (running (now (pages .entry)) (budget - from) r (now (memory .entry)))) s (now (memory .exit)) ⌝ }
 {
     let mut s = r;
-    let mut count: u32 = 0;
+    let mut count = from;
     while count < budget {
         let l = lane(budget - count, s, pages, memory);
         s = l.registers;
@@ -31,19 +86,17 @@ pub(crate) fn go(budget: u32, r: Registers, pages: &[u16], memory: &mut [u16]) -
                 registers: s,
             };
         }
-        let t = fetch(s, pages, memory);
-        let reply = t.reply;
-        let n = number_of(reply);
-        s = t.registers;
-        if n != 0 {
-            if n == 1 {
-                count += 1;
+        match take_turn(apart(s), pages, memory) {
+            Turn::Ended(x) => {
+                let reply = x.reply;
+                let last = x.registers;
+                return Ran {
+                    reply: reply,
+                    count: count + x.count,
+                    registers: last,
+                };
             }
-            return Ran {
-                reply: reply,
-                count: count,
-                registers: s,
-            };
+            Turn::On(t) => s = t,
         }
         count += 1;
     }
@@ -52,6 +105,31 @@ pub(crate) fn go(budget: u32, r: Registers, pages: &[u16], memory: &mut [u16]) -
         count: count,
         registers: s,
     }
+}
+
+// The steps of a good call: a step keeps the call good, so it is not tested again. A trap that waits is met by the
+// first step and by no later one.
+pub(crate) fn go(budget: u32, r: Registers, pages: &[u16], memory: &mut [u16]) -> Ran
+    requires { ⌜ goodCall (length (now pages)) (length (now memory)) r ≡ true ⌝ }
+    ensures { λ s. ⌜ Goes (running (now (pages .entry)) budget r (now (memory .entry))) s (now (memory .exit)) ⌝ }
+{
+    let mut s = r;
+    let mut count: u32 = 0;
+    if r.trap != 0 {
+        if budget == 0 {
+            return Ran {
+                reply: Reply::Completed,
+                count: 0,
+                registers: r,
+            };
+        }
+        match take_turn(apart(r), pages, memory) {
+            Turn::Ended(x) => return x,
+            Turn::On(t) => s = t,
+        }
+        count = 1;
+    }
+    go_on(budget, count, s, pages, memory)
 }
 
 // A run of up to so many steps.
