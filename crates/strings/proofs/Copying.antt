@@ -1,5 +1,6 @@
 -- A move after its tests: a run of elements copied by their places in memory.
 --     Copied, copied-inside, copied-fits, copied-on    how far the copy of a run has come; its next element, and one element on
+--     Filled, filled-first, filled-on      how far a copy of words to the places one on has come; where it begins, and one word on
 --     Placed, told, placed-on              the place of an element, and of the next on its page
 --     Moves, moves-inside, moves-run       how far a move has come; a run of it in memory; a run on
 -- Assumes nothing.
@@ -7,7 +8,8 @@ use Prim.Native.Nat.{ℕ, zero, suc, _<_, _≤_, _+_, _-_, _*_, _/_, _%_}
 use native.Mathlib.Omega.{arith}
 use mathlib.Core.Path.{_≡_, refl, sym, _∙_, ap}
 use mathlib.Core.List.{List}
-use lib.ListN.{length, length-set}
+use lib.ListN.{length, length-set, getD, set}
+use lib.Seq.{getD-set-same}
 use Rattle.maps.specs.Pages.{physicalPage, pageRegister, registerOf, indexIn, place}
 use Rattle.maps.proofs.Laws.{place-below}
 use Rattle.maps.specs.declared.pages.Map.{Map}
@@ -67,6 +69,31 @@ module _ (u : Element) (i j n : ℕ) (m : List ℕ) (i′ j′ n′ : ℕ) (m′
         second = omega (arith, h .second);
         onward = h .onward ∙ copies-on u i′ j′ n′ m′ some;
       })
+
+-- a copy of n words to the places one on has left n′ of them to copy in a memory m′, from the place j on; the word before it is v
+pub record Filled (i n : ℕ) (m : List ℕ) (v j n′ : ℕ) (m′ : List ℕ) : Type 0 where
+  pub past : 0 < j
+  pub found : getD m′ (j - 1) 0 ≡ v
+  pub copied : Copied Word i (i + 1) n m (j - 1) j n′ m′
+
+pub filled-first : (i n : ℕ) (m : List ℕ) → i + 1 + n ≤ length m → Filled i n m (getD m i 0) (i + 1) n m
+filled-first i n m l =
+    let e : i + 1 - 1 ≡ i = omega arith in
+    record {
+      past = omega arith;
+      found = rw e;
+      copied = rw e (record { lengths = refl; first = omega arith; second = l; onward = refl });
+    }
+
+pub filled-on : (i n : ℕ) (m : List ℕ) (v j n′ : ℕ) (m′ : List ℕ) → 0 < n′ → Filled i n m v j n′ m′ → Filled i n m v (j + 1) (n′ - 1) (set m′ j v)
+filled-on i n m v j n′ m′ some h =
+    let a : j + 1 - 1 ≡ j = omega arith in
+    let b : j - 1 + 1 ≡ j = omega (arith, h .past) in
+    record {
+      past = omega arith;
+      found = rw a (getD-set-same m′ j v 0 (omega (arith, h .copied .second)));
+      copied = rw a (rw b at (copied-on Word i (i + 1) n m (j - 1) j n′ m′ some (h .copied) {m″ = set m′ j v} (rw (h .found))));
+    }
 
 below-places : (u : Element) (i : ℕ) (m : List ℕ) → indexOf u i < length m → i + 1 ≤ placesIn u m
 below-places Word i m l = omega arith

@@ -243,6 +243,36 @@ fn copy_each(u: Element, source: usize, target: usize, n: u16, memory: &mut [u16
     }
 }
 
+// Words to the places that lie one on: each is the first word, which is read once.
+fn fill_words(source: usize, n: u16, memory: &mut [u16])
+    requires { ⌜ source + 1 + n ≤ length (now memory) ⌝ }
+    ensures { λ _. ⌜ now (memory .exit) ≡ copies Element.Word source (source + 1) n (now (memory .entry)) ⌝ }
+{
+    if n == 0 {
+        return;
+    }
+    let mut j = source + 1;
+    let v = memory[source];
+    let mut left = n;
+    while left > 0 {
+        memory[j] = v;
+        j += 1;
+        left -= 1;
+    }
+}
+
+// Words, each seeing the earlier stores.
+fn copy_words(source: usize, target: usize, n: u16, memory: &mut [u16])
+    requires { ⌜ (source + n ≤ placesIn Element.Word (now memory)) × (target + n ≤ placesIn Element.Word (now memory)) ⌝ }
+    ensures { λ _. ⌜ now (memory .exit) ≡ copies Element.Word source target n (now (memory .entry)) ⌝ }
+{
+    if target == source + 1 {
+        fill_words(source, n, memory);
+    } else {
+        copy_each(Element::Word, source, target, n, memory);
+    }
+}
+
 // Bytes whose places are both even or both odd: the words between the first byte and the last are
 // copied whole.
 fn copy_bytes(source: usize, target: usize, n: u16, memory: &mut [u16])
@@ -254,7 +284,7 @@ fn copy_bytes(source: usize, target: usize, n: u16, memory: &mut [u16])
     let i = source + head as usize;
     let j = target + head as usize;
     let words = (n - head) / 2;
-    copy_each(Element::Word, i / 2, j / 2, words, memory);
+    copy_words(i / 2, j / 2, words, memory);
     let done = words as usize * 2;
     copy_each(Element::Byte, i + done, j + done, (n - head) % 2, memory);
 }
@@ -277,7 +307,10 @@ fn copy_run(u: Element, source: usize, target: usize, n: u16, memory: &mut [u16]
     if lie_alike(u, source, target) {
         copy_bytes(source, target, n, memory);
     } else {
-        copy_each(u, source, target, n, memory);
+        match u {
+            Element::Word => copy_words(source, target, n, memory),
+            Element::Byte => copy_each(Element::Byte, source, target, n, memory),
+        }
     }
 }
 

@@ -30,8 +30,8 @@ add-j c = omega arith
 sub-words : tie.Need-sub-words
 sub-words c = omega arith
 
-copy-each-requires-2 : tie.Need-copy-each-requires-2
-copy-each-requires-2 c κs = (omega arith, omega arith)
+copy-words-requires : tie.Need-copy-words-requires
+copy-words-requires c κs = (omega arith, omega arith)
 
 cast-done : tie.Need-cast-done
 cast-done c = omega arith
@@ -48,14 +48,14 @@ add-copy-each-2 c = omega arith
 sub-copy-each : tie.Need-sub-copy-each
 sub-copy-each c = omega arith
 
-copy-each-requires-3 : tie.Need-copy-each-requires-3
-copy-each-requires-3 c κs = (omega arith, omega arith)
+copy-each-requires-2 : tie.Need-copy-each-requires-2
+copy-each-requires-2 c κs = (omega arith, omega arith)
 
 same-length : tie.Need-same-length
-same-length c = c .before .before .copy-each3 .kept .1 .1 .1 .1 .0 ∙ c .before .before .before .before .before .before .copy-each2 .kept .1 .1 .1 .1 .0 ∙ c .before .before .before .before .before .before .before .before .before .before .copy-each .kept .1 .1 .1 .1 .0
+same-length c = c .before .before .copy-each2 .kept .1 .1 .1 .1 .0 ∙ c .before .before .before .before .before .before .copy-words .kept .1 .1 .1 .0 ∙ c .before .before .before .before .before .before .before .before .before .before .copy-each .kept .1 .1 .1 .1 .0
 
 returns : tie.Need-returns
-returns c = copies-alike _ _ _ _ _ (c .before .before .before .before .before .before .before .before .before .before .before .before .before .before .pre .0) (c .before .before .before .before .before .before .before .before .before .before .before .before .at-most .ensures) (c .before .before .before .before .before .before .before .before .before .before .copy-each .ensures) (c .before .before .before .before .before .before .copy-each2 .ensures) (c .before .before .copy-each3 .ensures)
+returns c = copies-alike _ _ _ _ _ (c .before .before .before .before .before .before .before .before .before .before .before .before .before .before .pre .0) (c .before .before .before .before .before .before .before .before .before .before .before .before .at-most .ensures) (c .before .before .before .before .before .before .before .before .before .before .copy-each .ensures) (c .before .before .before .before .before .before .copy-words .ensures) (c .before .before .copy-each2 .ensures)
 
 pub copy-bytes-spec : {M : Type 1} → statement M
 copy-bytes-spec =
@@ -69,12 +69,12 @@ copy-bytes-spec =
     cast-j
     add-j
     sub-words
-    copy-each-requires-2
+    copy-words-requires
     cast-done
     mul-done
     add-copy-each
     add-copy-each-2
     sub-copy-each
-    copy-each-requires-3
+    copy-each-requires-2
     same-length
     returns)
