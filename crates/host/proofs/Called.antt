@@ -6,62 +6,54 @@ use mathlib.Core.List.{List, [], _∷_}
 use lib.ListN.{length, set}
 use borrow.Author.Tests.{eq-eqb, ne-eqb}
 use Rattle.acts.specs.Replies.{number}
-use Rattle.machine.specs.Step.{Steps, Runs}
+use Rattle.machine.specs.Step.{Runs}
+use Rattle.machine.proofs.Running.{ran-one}
 use Rattle.acts.specs.declared.record.Registers.{Registers}
-use Rattle.acts.specs.declared.replies.Stepped.{Stepped}
 use Rattle.acts.specs.declared.replies.Ran.{Ran}
+use Rattle.host.specs.declared.record.Taken.{Taken}
 use Rattle.host.specs.declared.record.Taken.the-variants.{Record, NoRecord}
 use Rattle.host.specs.Record.{wordsOf, registersOf}
-use Rattle.host.specs.Calls.{stepCall, Calls, runCall, RunCalls}
+use Rattle.host.specs.Calls.{stepCall, runCall, RunCalls}
 use Rattle.host.proofs.Records.{one-number}
 
-module _ (w pages m : List ℕ) where
-  pub step-called : {r : Registers} {s : Stepped} {words later n : List ℕ} {k : ℕ}
-      → registersOf w ≡ Record r → Steps pages r m s later n → words ≡ wordsOf (s .registers) → k ≡ number (s .reply)
-      → Calls (stepCall w pages m) pages k words later n
-  unfolding stepCall
-  step-called t h e f =
-      rw (t, stepCall) (record {
-        outcome = f ∙ ap (λ (s : Stepped). number (s .reply)) (h .outcome);
-        words = e ∙ ap (λ (s : Stepped). wordsOf (s .registers)) (h .outcome);
-        registers = h .registers;
-        memory = h .memory;
+module _ (w pages m : List ℕ) (budget : ℕ) where
+  pub run-called : {r : Registers} {s : Ran} {words later n : List ℕ} {k : ℕ}
+      → registersOf w ≡ Record r → Runs pages budget r m s later n → words ≡ wordsOf (s .registers) → k ≡ number (s .reply)
+      → RunCalls (runCall w pages m budget (0 ∷ [])) pages k words later n (s .count ∷ [])
+  unfolding runCall
+  run-called t h e f =
+      rw (t, runCall) (record {
+        calls = record {
+          outcome = f ∙ ap (λ (s : Ran). number (s .reply)) (h .goes .outcome);
+          words = e ∙ ap (λ (s : Ran). wordsOf (s .registers)) (h .goes .outcome);
+          registers = h .registers;
+          memory = h .goes .memory;
+        };
+        count = ap (λ (s : Ran). s .count ∷ []) (h .goes .outcome);
       })
 
-  pub step-refused : registersOf w ≡ NoRecord → Calls (stepCall w pages m) pages 8 w pages m
-  unfolding stepCall
-  step-refused t = rw (t, stepCall) (record { outcome = refl; words = refl; registers = refl; memory = refl })
+  pub run-refused : registersOf w ≡ NoRecord → RunCalls (runCall w pages m budget (0 ∷ [])) pages 8 w pages m (0 ∷ [])
+  unfolding runCall
+  run-refused t =
+      rw (t, runCall) (record { calls = record { outcome = refl; words = refl; registers = refl; memory = refl }; count = refl })
 
-  module _ (budget : ℕ) (count : List ℕ) where
-    pub run-called : {r : Registers} {s : Ran} {words later n : List ℕ} {k : ℕ}
-        → length count ≡ 1 → registersOf w ≡ Record r → Runs pages budget r m s later n → words ≡ wordsOf (s .registers)
-        → k ≡ number (s .reply)
-        → RunCalls (runCall w pages m budget count) pages k words later n (set count 0 (s .count))
-    unfolding runCall
-    run-called l t h e f =
-        rw (eq-eqb _ _ l, t, runCall) (record {
-          calls = record {
-            outcome = f ∙ ap (λ (s : Ran). number (s .reply)) (h .goes .outcome);
-            words = e ∙ ap (λ (s : Ran). wordsOf (s .registers)) (h .goes .outcome);
-            registers = h .registers;
-            memory = h .goes .memory;
-          };
-          count = one-number count _ l ∙ ap (λ (s : Ran). s .count ∷ []) (h .goes .outcome);
-        })
+  -- with a count of any one number
+  pub counted : (count : List ℕ) {k x : ℕ} {words later n : List ℕ} → length count ≡ 1
+      → RunCalls (runCall w pages m budget (0 ∷ [])) pages k words later n (x ∷ [])
+      → RunCalls (runCall w pages m budget count) pages k words later n (set count 0 x)
+  unfolding runCall
+  counted count {x = x} l h = rw (eq-eqb _ _ l) (record { calls = h .calls; count = one-number count x l ∙ h .count })
 
-    pub run-refused : length count ≡ 1 → registersOf w ≡ NoRecord
-        → RunCalls (runCall w pages m budget count) pages 8 w pages m (set count 0 0)
-    unfolding runCall
-    run-refused l t =
-        rw (eq-eqb _ _ l, t, runCall) (record {
-          calls = record { outcome = refl; words = refl; registers = refl; memory = refl };
-          count = one-number count 0 l;
-        })
+  pub uncounted : (count : List ℕ) → (length count ≡ 1 → ⊥) → RunCalls (runCall w pages m budget count) pages 8 w pages m count
+  unfolding runCall
+  uncounted count l =
+      rw (ne-eqb _ _ l) (record { calls = record { outcome = refl; words = refl; registers = refl; memory = refl }; count = refl })
 
-    pub run-uncounted : (length count ≡ 1 → ⊥) → RunCalls (runCall w pages m budget count) pages 8 w pages m count
-    unfolding runCall
-    run-uncounted l =
-        rw (ne-eqb _ _ l) (record {
-          calls = record { outcome = refl; words = refl; registers = refl; memory = refl };
-          count = refl;
-        })
+-- a step is a run of one
+pub step-as-run : (w pages m : List ℕ) → stepCall w pages m ≡ runCall w pages m 1 (0 ∷ []) .call
+unfolding stepCall runCall
+step-as-run w pages m = go (registersOf w) refl
+  where
+    go : (t : Taken) → registersOf w ≡ t → stepCall w pages m ≡ runCall w pages m 1 (0 ∷ []) .call
+    go (Record r) e = rw (e, stepCall, runCall, ran-one pages r m)
+    go NoRecord e = rw (e, stepCall, runCall)

@@ -5,8 +5,8 @@ use crate::record::write_record;
 use acts::record::fresh_record;
 use acts::replies::number_of;
 use machine::run::run;
-use machine::step::step;
 ghost use mathlib.Core.Path.{_≡_};
+ghost use mathlib.Core.List.{[], _∷_};
 ghost use Rattle.host.specs.Calls.{freshCall, stepCall, runCall, Answers, Calls, RunCalls};
 
 #[no_mangle]
@@ -20,20 +20,38 @@ pub extern "C" fn a400_fresh(words: &mut [u16]) -> u32
     0
 }
 
+// The reply's number, and the count.
+struct Made {
+    reply: u32,
+    count: u32,
+}
+
+// A run of the record in words. A step is a run of one: both go by this function, so that the machine's own are
+// drawn into it.
+fn call(words: &mut [u16], pages: &mut [u16], memory: &mut [u16], budget: u32) -> Made
+    ensures { λ c. ⌜ RunCalls (runCall (now (words .entry)) (now (pages .entry)) (now (memory .entry)) budget (0 ∷ [])) (now (pages .entry)) (c .reply) (now (words .exit)) (now (pages .exit)) (now (memory .exit)) (c .count ∷ []) ⌝ }
+{
+    match read_record(words) {
+        Taken::Record(r) => {
+            let s = run(budget, r, pages, memory);
+            let reply = s.reply;
+            let registers = s.registers;
+            write_record(registers, words);
+            Made {
+                reply: number_of(reply),
+                count: s.count,
+            }
+        }
+        Taken::NoRecord => Made { reply: 8, count: 0 },
+    }
+}
+
 #[no_mangle]
 pub extern "C" fn a400_step(words: &mut [u16], pages: &mut [u16], memory: &mut [u16]) -> u32
     ensures { λ n. ⌜ Calls (stepCall (now (words .entry)) (now (pages .entry)) (now (memory .entry))) (now (pages .entry)) n (now (words .exit)) (now (pages .exit)) (now (memory .exit)) ⌝ }
 {
-    match read_record(words) {
-        Taken::Record(r) => {
-            let s = step(r, pages, memory);
-            let reply = s.reply;
-            let registers = s.registers;
-            write_record(registers, words);
-            number_of(reply)
-        }
-        Taken::NoRecord => 8,
-    }
+    let made = call(words, pages, memory, 1);
+    made.reply
 }
 
 #[no_mangle]
@@ -49,18 +67,7 @@ pub extern "C" fn a400_run(
     if count.len() != 1 {
         return 8;
     }
-    match read_record(words) {
-        Taken::Record(r) => {
-            let s = run(budget, r, pages, memory);
-            let reply = s.reply;
-            let registers = s.registers;
-            write_record(registers, words);
-            count[0] = s.count;
-            number_of(reply)
-        }
-        Taken::NoRecord => {
-            count[0] = 0;
-            8
-        }
-    }
+    let made = call(words, pages, memory, budget);
+    count[0] = made.count;
+    made.reply
 }

@@ -5,14 +5,14 @@
 --     finished               the budget is spent
 --     entered-none, entered-one, ended-at-once    the first step
 --     rolled, rolling        steps of the lane
---     one-step               a run of one step is a step
+--     ran-one, one-step      a run of one step is a step
 -- Assumes nothing.
 use Prim.Native.Nat.{ℕ, suc, _+_, _-_, _<_, _≤_}
 use native.Mathlib.Omega.{arith}
 use native.Mathlib.Nat.{zero-add, add-zero, sub-zero, add-assoc, suc-add, add-suc}
 use native.Mathlib.Numerals.{add-one}
 use mathlib.Core.Path.{_≡_, refl, sym, ap, ap₂, _∙_}
-use mathlib.Core.Bool.{true, false}
+use mathlib.Core.Bool.{Bool, true, false}
 use mathlib.Core.List.{List}
 use lib.Dec.{eqb, leb}
 use lib.ListN.{length}
@@ -22,7 +22,7 @@ use Rattle.acts.specs.Acts.{Ends, exec, answer, left}
 use Rattle.rules.specs.Rules.{stepAct}
 use Rattle.lane.specs.Lane.{Rolls, none, one-more as more-by-one}
 use Rattle.machine.specs.Turns.{plus, Turned}
-use Rattle.machine.specs.Step.{goodCall, stepped, Leaves, ending, counting, after, running, Goes, Steps}
+use Rattle.machine.specs.Step.{goodCall, stepped, Leaves, ending, counting, after, running, ran, Goes, Steps}
 use Rattle.acts.specs.declared.record.Registers.{Registers}
 use Rattle.acts.specs.declared.replies.Reply.{Reply}
 use Rattle.acts.specs.declared.replies.Stepped.{Stepped}
@@ -145,6 +145,29 @@ running-one : (pages : List ℕ) (r : Registers) (m : List ℕ)
     ≡ ending (answer r (stepped pages r m) .reply) (weight (leb (number (answer r (stepped pages r m) .reply)) 1)) (answer r (stepped pages r m) .registers) (left m (stepped pages r m))
 unfolding running
 running-one pages r m = after-one (answer r (stepped pages r m) .reply) (answer r (stepped pages r m) .registers) (left m (stepped pages r m))
+
+ran-good : (pages : List ℕ) (r : Registers) (m : List ℕ) → goodCall (length pages) (length m) r ≡ true → ran pages 1 r m ≡ running pages 1 r m
+unfolding ran
+ran-good pages r m e = rw e
+
+ran-bad : (pages : List ℕ) (r : Registers) (m : List ℕ) → goodCall (length pages) (length m) r ≡ false
+    → ran pages 1 r m
+    ≡ ending (answer r (stepped pages r m) .reply) (weight (leb (number (answer r (stepped pages r m) .reply)) 1)) (answer r (stepped pages r m) .registers) (left m (stepped pages r m))
+unfolding ran stepped
+ran-bad pages r m e = rw e
+
+-- the same of a call that is good or bad
+pub ran-one : (pages : List ℕ) (r : Registers) (m : List ℕ)
+    → ran pages 1 r m
+    ≡ ending (answer r (stepped pages r m) .reply) (weight (leb (number (answer r (stepped pages r m) .reply)) 1)) (answer r (stepped pages r m) .registers) (left m (stepped pages r m))
+ran-one pages r m = go (goodCall (length pages) (length m) r) refl
+  where
+    abbreviated : Leaves
+    abbreviated = ending (answer r (stepped pages r m) .reply) (weight (leb (number (answer r (stepped pages r m) .reply)) 1)) (answer r (stepped pages r m) .registers) (left m (stepped pages r m))
+
+    go : (b : Bool) → goodCall (length pages) (length m) r ≡ b → ran pages 1 r m ≡ abbreviated
+    go true e = ran-good pages r m e ∙ running-one pages r m
+    go false e = ran-bad pages r m e
 
 pub one-step : (pages : List ℕ) (r : Registers) (m : List ℕ) {t : Ran} {n : List ℕ} {s : Stepped} → Goes (running pages 1 r m) t n
     → s ≡ record { reply = t .reply; registers = t .registers } → Steps pages r m s pages n

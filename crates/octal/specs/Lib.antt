@@ -1,0 +1,2 @@
+-- What octal's functions give. Assumes nothing.
+pub mod Digits
