@@ -3,6 +3,8 @@
 --     taking, putting, stepping, jumping    a way that completes
 --     step-at, tried              a step, by what its word asks for
 --     clear, asking, near, direct, once    an address word that leads on by no level, or by one
+--     others                      the memory references that do not read alone
+--     finished-by                 a code of one address word that reads
 --     carrying                    a step of a memory reference, or of a word of shift/rotate or alter/skip
 -- Assumes nothing.
 use Prim.Native.Nat.{ℕ, _+_, _/_, _%_, _<_, _≤_}
@@ -25,6 +27,7 @@ use Rattle.maps.specs.declared.pages.Purpose.{Purpose}
 use Rattle.maps.specs.declared.pages.Place.{Place}
 use Rattle.maps.specs.declared.access.Fetched.{Fetched}
 use Rattle.maps.specs.declared.chains.Chain.{Chain}
+use Rattle.code.proofs.Digits.{last-arm}
 use Rattle.code.specs.Instructions.{operationAt, memoryReference, reading}
 use Rattle.acts.specs.Record.{withP, ahead}
 use Rattle.acts.specs.Acts.{Act, fin, load, save, follow, goOn, done, exec}
@@ -33,7 +36,8 @@ use Rattle.effects.specs.Ways.{taken, wayAct}
 use Rattle.effects.specs.declared.ways.Taking.{Taking}
 use Rattle.effects.specs.declared.ways.Way.the-variants.{StepAndSkip, Jump}
 use Rattle.rules.specs.Rules.{memoryWay, memoryWord, rule, stepAct}
-use Rattle.lane.specs.Lane.{Tried, Led, carried}
+use Rattle.lane.specs.Lane.{Tried, Led, putAt, carried}
+use Rattle.lane.specs.Asking.{Finishes}
 use Rattle.lane.specs.declared.went.Went.{Went}
 use Rattle.lane.specs.declared.went.Reach.{Reach}
 
@@ -116,6 +120,44 @@ module _ (pages m : List ℕ) (r : Registers) where
       go : (b : Bool) → leb 2 (w / 0o4000 % 16) ≡ b → exec pages (rule (reading w) r) r m ≡ exec pages (carried w at r) r m
       go true h = rw (reading, h, memoryReference, led) refl
       go false h = rw (reading, h, clear w (few (omega (arith, leb-false 2 (w / 0o4000 % 16) h)))) refl
+
+---- The memory references that do not read alone
+
+fifteen : (n : ℕ) → 14 ≤ n → n < 16 → (n ≡ 14 → ⊥) → n ≡ 15
+fifteen n l m h = omega arith
+
+module _ (n at : ℕ) (r : Registers) where
+  pub others : n < 16 → 2 ≤ n → (n ≡ 2 → ⊥) → (n ≡ 4 → ⊥) → (n ≡ 6 → ⊥) → (n ≡ 8 → ⊥) → (n ≡ 9 → ⊥) → (n ≡ 10 → ⊥)
+      → (n ≡ 11 → ⊥) → (n ≡ 12 → ⊥) → (n ≡ 13 → ⊥) → wayAct (memoryWay (operationAt n)) r at 1 ≡ wayAct (putAt n) r at 1
+  unfolding putAt
+  others l m a b c d e f g h k = three (eqb n 3) refl
+    where
+      last : n ≡ 15 → wayAct (memoryWay (operationAt n)) r at 1 ≡ wayAct (putAt n) r at 1
+      last q = rw q refl
+
+      fourteen : (t : Bool) → eqb n 14 ≡ t → (n ≡ 3 → ⊥) → (n ≡ 5 → ⊥) → (n ≡ 7 → ⊥) → wayAct (memoryWay (operationAt n)) r at 1 ≡ wayAct (putAt n) r at 1
+      fourteen true q x y z = rw (eqb-true n 14 q) refl
+      fourteen false q x y z =
+          last (fifteen n (last-arm n 2 12 m ((((((((((((tt, a), x), b), y), c), z), d), e), f), g), h), k)) l (eqb-false n 14 q))
+
+      seven : (t : Bool) → eqb n 7 ≡ t → (n ≡ 3 → ⊥) → (n ≡ 5 → ⊥) → wayAct (memoryWay (operationAt n)) r at 1 ≡ wayAct (putAt n) r at 1
+      seven true q x y = rw (eqb-true n 7 q) refl
+      seven false q x y = fourteen (eqb n 14) refl x y (eqb-false n 7 q)
+
+      five : (t : Bool) → eqb n 5 ≡ t → (n ≡ 3 → ⊥) → wayAct (memoryWay (operationAt n)) r at 1 ≡ wayAct (putAt n) r at 1
+      five true q x = rw (eqb-true n 5 q) refl
+      five false q x = seven (eqb n 7) refl x (eqb-false n 5 q)
+
+      three : (t : Bool) → eqb n 3 ≡ t → wayAct (memoryWay (operationAt n)) r at 1 ≡ wayAct (putAt n) r at 1
+      three true q = rw (eqb-true n 3 q) refl
+      three false q = five (eqb n 5) refl (eqb-false n 3 q)
+
+-- a word that was read, and what the codes of one address word make of it
+pub finished-by : (pages m : List ℕ) (r : Registers) (t : Taking) (at : ℕ) {v : ℕ} {f : Fetched} (w : Went)
+    → f ≡ fetched pages m (r .wmap) Map.Execute at (r .a) (r .b) → f ≡ Fetched.Word v → Finishes t v r w
+    → Tried pages (load Map.Execute at (λ x. fin (taken t x 2))) r m w m
+finished-by pages m r t at {v} (Went.Done s) e g h = loaded pages m r at (λ x. fin (taken t x 2)) e g ∙ finished pages m r (taken t v 2) m h
+finished-by pages m r t at Went.Not e g h = refl
 
 ---- Bits
 

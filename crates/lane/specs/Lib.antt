@@ -1,2 +1,3 @@
 -- What the functions of this crate promise. Assumes nothing.
 pub mod Lane
+pub mod Asking

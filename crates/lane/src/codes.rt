@@ -4,6 +4,7 @@ use crate::went::Reach;
 use crate::went::Went;
 use acts::record::Registers;
 use acts::record::go_ahead;
+use acts::record::index;
 use acts::record::set_index;
 use acts::record::set_register;
 use code::codes::Index;
@@ -11,9 +12,13 @@ use code::codes::Register;
 use effects::group::copy_from_index;
 use effects::group::copy_to_index;
 use effects::group::exchange;
-use effects::group::long_rotate;
+use effects::ways::Addressing;
+use effects::ways::Source;
 use effects::ways::Taking;
-use effects::ways::apply;
+use effects::ways::set_flags;
+use effects::ways::take_product;
+use effects::ways::take_quotient;
+use effects::ways::value_of;
 use maps::access::Fetched;
 use maps::access::read_word;
 use maps::pages::Map;
@@ -21,6 +26,10 @@ use maps::pages::Place;
 use maps::pages::Purpose;
 use maps::pages::place_of;
 use word::long::LongShift;
+use word::long::long_shift;
+use word::products::divide;
+use word::products::multiply;
+use word::sums::add;
 use word::sums::decrement;
 use word::sums::increment;
 use word::sums::past;
@@ -30,11 +39,11 @@ ghost use Prim.Native.Nat.{ℕ};
 ghost use Rattle.word.specs.Sums.{address};
 ghost use Rattle.code.specs.Instructions.{reading};
 ghost use Rattle.acts.specs.Acts.{load, save, fin, goOn};
-ghost use Rattle.effects.specs.Group.{indexStepped};
-ghost use Rattle.effects.specs.Ways.{taken, wayAct};
-ghost use Rattle.effects.specs.declared.ways.Way.{Way};
+ghost use Rattle.effects.specs.Group.{indexStepped, longRotated};
+ghost use Rattle.effects.specs.Ways.{taken, addressed as addressedBy};
 ghost use Rattle.rules.specs.Rules.{rule};
 ghost use Rattle.lane.specs.Lane.{Tried};
+ghost use Rattle.lane.specs.Asking.{Goes, Finishes};
 
 // ISX, DSX, ISY and DSY, whose register becomes w.
 fn step(i: Index, w: u16, r: Registers) -> Registers
@@ -48,19 +57,33 @@ fn step(i: Index, w: u16, r: Registers) -> Registers
     }
 }
 
+// The record after a long shift.
+fn rotate_long(kind: LongShift, n: u16, r: Registers) -> Registers
+    ensures { λ s. ⌜ s ≡ longRotated kind n r ⌝ }
+{
+    let t = long_shift(kind, n, r.b, r.a, r.o);
+    let mut s = r;
+    s.a = t.a;
+    s.b = t.b;
+    s.o = t.o;
+    go_ahead(1, s)
+}
+
 // The long shifts. The places are in their low four bits.
 fn shift_long(word: u16, r: Registers) -> Went
     ensures { λ w. ⌜ ((pages m : List ℕ) → Tried pages (rule (reading word) r) r m w m) ⌝ }
 {
+    let mut s = r;
     match word / 16 {
-        0o4001 => Went::Done(long_rotate(LongShift::Asl, word, r)),
-        0o4002 => Went::Done(long_rotate(LongShift::Lsl, word, r)),
-        0o4004 => Went::Done(long_rotate(LongShift::Rrl, word, r)),
-        0o4041 => Went::Done(long_rotate(LongShift::Asr, word, r)),
-        0o4042 => Went::Done(long_rotate(LongShift::Lsr, word, r)),
-        0o4044 => Went::Done(long_rotate(LongShift::Rrr, word, r)),
-        _ => Went::Not,
+        0o4001 => s = rotate_long(LongShift::Asl, word, r),
+        0o4002 => s = rotate_long(LongShift::Lsl, word, r),
+        0o4004 => s = rotate_long(LongShift::Rrl, word, r),
+        0o4041 => s = rotate_long(LongShift::Asr, word, r),
+        0o4042 => s = rotate_long(LongShift::Lsr, word, r),
+        0o4044 => s = rotate_long(LongShift::Rrr, word, r),
+        _ => return Went::Not,
     }
+    Went::Done(s)
 }
 
 // The codes that have no address word.
@@ -88,6 +111,25 @@ fn alone(word: u16, r: Registers) -> Went
     }
 }
 
+// The registers after a word was read, by the codes below. The arms have one end.
+fn finish(taking: Taking, v: u16, r: Registers) -> Went
+    ensures { λ w. ⌜ Finishes taking v r w ⌝ }
+{
+    let mut s = r;
+    match taking {
+        Taking::Multiply => s = go_ahead(2, take_product(multiply(r.a, v), r)),
+        Taking::Divide => s = go_ahead(2, take_quotient(divide(r.b, r.a, v), r)),
+        Taking::Load(g) => s = go_ahead(2, set_register(g, r, v)),
+        Taking::LoadIndex(i) => s = go_ahead(2, set_index(i, r, v)),
+        Taking::AddIndex(i) => {
+            let t = add(index(i, r), v);
+            s = go_ahead(2, set_index(i, set_flags(t, r), t.word));
+        }
+        _ => return Went::Not,
+    }
+    Went::Done(s)
+}
+
 // The word at an address is read, and the registers follow.
 fn take(taking: Taking, at: u16, r: Registers, pages: &[u16], memory: &[u16]) -> Went
     ensures { λ w. ⌜ Tried (now (pages .entry)) (load Map.Execute at (λ v. fin (taken taking v 2))) r (now (memory .entry)) w (now (memory .entry)) ⌝ }
@@ -95,22 +137,7 @@ fn take(taking: Taking, at: u16, r: Registers, pages: &[u16], memory: &[u16]) ->
     let Fetched::Word(v) = read_word(pages, memory, r.wmap, Map::Execute, at, r.a, r.b) else {
         return Went::Not;
     };
-    Went::Done(apply(taking, v, 2, r))
-}
-
-// DLD
-fn take_double(at: u16, r: Registers, pages: &[u16], memory: &[u16]) -> Went
-    ensures { λ w. ⌜ Tried (now (pages .entry)) (wayAct Way.LoadDouble r at 2) r (now (memory .entry)) w (now (memory .entry)) ⌝ }
-{
-    let Fetched::Word(v) = read_word(pages, memory, r.wmap, Map::Execute, at, r.a, r.b) else {
-        return Went::Not;
-    };
-    let next = past(at, 1);
-    let Fetched::Word(w) = read_word(pages, memory, r.wmap, Map::Execute, next, r.a, r.b) else {
-        return Went::Not;
-    };
-    let s = set_register(Register::A, r, v);
-    Went::Done(go_ahead(2, set_register(Register::B, s, w)))
+    finish(taking, v, r)
 }
 
 // A word is stored at an address.
@@ -125,21 +152,57 @@ fn put(value: u16, at: u16, r: Registers, pages: &[u16], memory: &mut [u16]) -> 
     Went::Done(go_ahead(2, r))
 }
 
-// DST. Both places are found before either store.
-fn put_double(at: u16, r: Registers, pages: &[u16], memory: &mut [u16]) -> Went
-    ensures { λ w. ⌜ Tried (now (pages .entry)) (wayAct Way.StoreDouble r at 2) r (now (memory .entry)) w (now (memory .exit)) ⌝ }
+// What a code with an address word does there. The map is Execute.
+pub enum Asked {
+    Take(Taking, Addressing),
+    Put(Source, Addressing),
+    Nothing,
+}
+
+// Told by the word, with no search.
+fn asks(word: u16) -> Asked
+    ensures { λ a. ⌜ Goes word a ⌝ }
 {
-    let n = memory.len();
-    let next = past(at, 1);
-    let Place::Memory(i) = place_of(pages, r.wmap, Map::Execute, Purpose::Store, at, n) else {
-        return Went::Not;
-    };
-    let Place::Memory(j) = place_of(pages, r.wmap, Map::Execute, Purpose::Store, next, n) else {
-        return Went::Not;
-    };
-    memory[i] = r.a;
-    memory[j] = r.b;
-    Went::Done(go_ahead(2, r))
+    match word {
+        0o100200 => Asked::Take(Taking::Multiply, Addressing::Plain),
+        0o100400 => Asked::Take(Taking::Divide, Addressing::Plain),
+        0o101740 => Asked::Put(
+            Source::Register(Register::A),
+            Addressing::Indexed(Index::X),
+        ),
+        0o101750 => Asked::Put(
+            Source::Register(Register::A),
+            Addressing::Indexed(Index::Y),
+        ),
+        0o105740 => Asked::Put(
+            Source::Register(Register::B),
+            Addressing::Indexed(Index::X),
+        ),
+        0o105750 => Asked::Put(
+            Source::Register(Register::B),
+            Addressing::Indexed(Index::Y),
+        ),
+        0o105743 => Asked::Put(Source::Index(Index::X), Addressing::Plain),
+        0o105753 => Asked::Put(Source::Index(Index::Y), Addressing::Plain),
+        0o101742 => Asked::Take(Taking::Load(Register::A), Addressing::Indexed(Index::X)),
+        0o101752 => Asked::Take(Taking::Load(Register::A), Addressing::Indexed(Index::Y)),
+        0o105742 => Asked::Take(Taking::Load(Register::B), Addressing::Indexed(Index::X)),
+        0o105752 => Asked::Take(Taking::Load(Register::B), Addressing::Indexed(Index::Y)),
+        0o105745 => Asked::Take(Taking::LoadIndex(Index::X), Addressing::Plain),
+        0o105755 => Asked::Take(Taking::LoadIndex(Index::Y), Addressing::Plain),
+        0o105746 => Asked::Take(Taking::AddIndex(Index::X), Addressing::Plain),
+        0o105756 => Asked::Take(Taking::AddIndex(Index::Y), Addressing::Plain),
+        _ => Asked::Nothing,
+    }
+}
+
+fn place_at(addressing: Addressing, at: u16, r: Registers) -> u16
+    ensures { λ m. ⌜ m ≡ addressedBy addressing at r ⌝ }
+{
+    match addressing {
+        Addressing::Plain => at,
+        Addressing::Indexed(i) => past(at, index(i, r)),
+    }
 }
 
 // The codes that have an address word.
@@ -154,26 +217,15 @@ fn addressed(word: u16, r: Registers, pages: &[u16], memory: &mut [u16]) -> Went
     let Reach::At(to) = lead(from, r, pages, memory) else {
         return Went::Not;
     };
-    match word {
-        0o100200 => take(Taking::Multiply, to, r, pages, memory),
-        0o100400 => take(Taking::Divide, to, r, pages, memory),
-        0o104200 => take_double(to, r, pages, memory),
-        0o104400 => put_double(to, r, pages, memory),
-        0o101740 => put(r.a, past(to, r.x), r, pages, memory),
-        0o101750 => put(r.a, past(to, r.y), r, pages, memory),
-        0o105740 => put(r.b, past(to, r.x), r, pages, memory),
-        0o105750 => put(r.b, past(to, r.y), r, pages, memory),
-        0o105743 => put(r.x, to, r, pages, memory),
-        0o105753 => put(r.y, to, r, pages, memory),
-        0o101742 => take(Taking::Load(Register::A), past(to, r.x), r, pages, memory),
-        0o101752 => take(Taking::Load(Register::A), past(to, r.y), r, pages, memory),
-        0o105742 => take(Taking::Load(Register::B), past(to, r.x), r, pages, memory),
-        0o105752 => take(Taking::Load(Register::B), past(to, r.y), r, pages, memory),
-        0o105745 => take(Taking::LoadIndex(Index::X), to, r, pages, memory),
-        0o105755 => take(Taking::LoadIndex(Index::Y), to, r, pages, memory),
-        0o105746 => take(Taking::AddIndex(Index::X), to, r, pages, memory),
-        0o105756 => take(Taking::AddIndex(Index::Y), to, r, pages, memory),
-        _ => Went::Not,
+    match asks(word) {
+        Asked::Take(taking, addressing) => {
+            take(taking, place_at(addressing, to, r), r, pages, memory)
+        }
+        Asked::Put(source, addressing) => {
+            let place = place_at(addressing, to, r);
+            put(value_of(source, r), place, r, pages, memory)
+        }
+        Asked::Nothing => Went::Not,
     }
 }
 

@@ -1,7 +1,9 @@
 // One step, if it is a frequent one, and as many of them as there are.
 use crate::codes::extend;
-use crate::group::alter;
-use crate::group::shift;
+use crate::group::alter_a;
+use crate::group::alter_b;
+use crate::group::shift_a;
+use crate::group::shift_b;
 use crate::references::put;
 use crate::references::reach;
 use crate::references::take;
@@ -21,28 +23,30 @@ fn carry(word: u16, at: u16, r: Registers, pages: &[u16], memory: &mut [u16]) ->
     ensures { λ w. ⌜ Tried (now (pages .entry)) (carried word at r) r (now (memory .entry)) w (now (memory .exit)) ⌝ }
 {
     match word / 0o4000 % 16 {
-        0 | 1 => {
+        0 => {
             if word / 0o2000 % 2 == 1 {
-                Went::Done(alter(word, r))
+                Went::Done(alter_a(word, r))
             } else {
-                Went::Done(shift(word, r))
+                Went::Done(shift_a(word, r))
+            }
+        }
+        1 => {
+            if word / 0o2000 % 2 == 1 {
+                Went::Done(alter_b(word, r))
+            } else {
+                Went::Done(shift_b(word, r))
             }
         }
         2 => take(2, at, r, pages, memory),
-        3 => put(3, at, r, pages, memory),
         4 => take(4, at, r, pages, memory),
-        5 => put(5, at, r, pages, memory),
         6 => take(6, at, r, pages, memory),
-        7 => put(7, at, r, pages, memory),
         8 => take(8, at, r, pages, memory),
         9 => take(9, at, r, pages, memory),
         10 => take(10, at, r, pages, memory),
         11 => take(11, at, r, pages, memory),
         12 => take(12, at, r, pages, memory),
         13 => take(13, at, r, pages, memory),
-        14 => put(14, at, r, pages, memory),
-        15 => put(15, at, r, pages, memory),
-        _ => Went::Not,
+        _ => put(word / 0o4000 % 16, at, r, pages, memory),
     }
 }
 

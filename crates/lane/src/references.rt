@@ -97,10 +97,11 @@ pub(crate) fn take(operation: u16, at: u16, r: Registers, pages: &[u16], memory:
     Went::Done(taken(operation, v, r))
 }
 
-// JSB, JMP, ISZ, STA and STB.
+// JSB, JMP, ISZ, STA and STB. The arms have one end, so that the record stays in the processor's registers.
 pub(crate) fn put(operation: u16, at: u16, r: Registers, pages: &[u16], memory: &mut [u16]) -> Went
     ensures { λ w. ⌜ Tried (now (pages .entry)) (wayAct (putAt operation) r at 1) r (now (memory .entry)) w (now (memory .exit)) ⌝ }
 {
+    let mut s = r;
     match operation {
         3 => {
             let Place::Memory(i) = place_of(
@@ -114,9 +115,9 @@ pub(crate) fn put(operation: u16, at: u16, r: Registers, pages: &[u16], memory: 
                 return Went::Not;
             };
             memory[i] = past(r.p, 1);
-            Went::Done(go_to(past(at, 1), r))
+            s = go_to(past(at, 1), r);
         }
-        5 => Went::Done(go_to(at, r)),
+        5 => s = go_to(at, r),
         7 => {
             let Fetched::Word(v) = read_word(pages, memory, r.wmap, Map::Execute, at, r.a, r.b)
             else {
@@ -135,9 +136,9 @@ pub(crate) fn put(operation: u16, at: u16, r: Registers, pages: &[u16], memory: 
             let u = increment(v).word;
             memory[i] = u;
             if u == 0 {
-                Went::Done(go_ahead(2, r))
+                s = go_ahead(2, r);
             } else {
-                Went::Done(go_ahead(1, r))
+                s = go_ahead(1, r);
             }
         }
         14 => {
@@ -152,7 +153,7 @@ pub(crate) fn put(operation: u16, at: u16, r: Registers, pages: &[u16], memory: 
                 return Went::Not;
             };
             memory[i] = r.a;
-            Went::Done(go_ahead(1, r))
+            s = go_ahead(1, r);
         }
         _ => {
             let Place::Memory(i) = place_of(
@@ -166,7 +167,8 @@ pub(crate) fn put(operation: u16, at: u16, r: Registers, pages: &[u16], memory: 
                 return Went::Not;
             };
             memory[i] = r.b;
-            Went::Done(go_ahead(1, r))
+            s = go_ahead(1, r);
         }
     }
+    Went::Done(s)
 }

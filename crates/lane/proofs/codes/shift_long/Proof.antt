@@ -1,59 +1,59 @@
--- `codes::shift_long` meets its contract: each arm is a long shift, whatever its places. Assumes nothing.
+-- `codes::shift_long` meets its contract. Assumes nothing.
 use Rattle.word.specs.declared.long.LongShift.the-variants.{Asl, Lsl, Rrl, Asr, Lsr, Rrr}
 use Rattle.lane.proofs.Extended.{rotating}
 use borrow.Author.Needs.{needs}
 use Rattle.lane.proofs.codes.shift_long.Statement.{statement}
 use Rattle.lane.proofs.codes.shift_long.Tie as tie
 
-long-rotate-requires : tie.Need-long-rotate-requires
-long-rotate-requires c κs = search needs
+rotate-long-requires : tie.Need-rotate-long-requires
+rotate-long-requires c κs = search needs
 
-long-rotate-requires-2 : tie.Need-long-rotate-requires-2
-long-rotate-requires-2 c κs = search needs
+rotate-long-requires-2 : tie.Need-rotate-long-requires-2
+rotate-long-requires-2 c κs = search needs
 
-long-rotate-requires-3 : tie.Need-long-rotate-requires-3
-long-rotate-requires-3 c κs = search needs
+rotate-long-requires-3 : tie.Need-rotate-long-requires-3
+rotate-long-requires-3 c κs = search needs
 
-long-rotate-requires-4 : tie.Need-long-rotate-requires-4
-long-rotate-requires-4 c κs = search needs
+rotate-long-requires-4 : tie.Need-rotate-long-requires-4
+rotate-long-requires-4 c κs = search needs
 
-long-rotate-requires-5 : tie.Need-long-rotate-requires-5
-long-rotate-requires-5 c κs = search needs
+rotate-long-requires-5 : tie.Need-rotate-long-requires-5
+rotate-long-requires-5 c κs = search needs
 
-long-rotate-requires-6 : tie.Need-long-rotate-requires-6
-long-rotate-requires-6 c κs = search needs
+rotate-long-requires-6 : tie.Need-rotate-long-requires-6
+rotate-long-requires-6 c κs = search needs
 
 returns : tie.Need-returns
-returns c = rotating _ Asl _ (c .before .match .keys1) (c .long-rotate .ensures)
+returns c = search needs
 
 returns-2 : tie.Need-returns-2
-returns-2 c = rotating _ Lsl _ (c .before .match .keys2) (c .long-rotate2 .ensures)
+returns-2 c = rotating _ Asl _ (c .before .match .keys1) (c .rotate-long .ensures)
 
 returns-3 : tie.Need-returns-3
-returns-3 c = rotating _ Rrl _ (c .before .match .keys3) (c .long-rotate3 .ensures)
+returns-3 c = rotating _ Lsl _ (c .before .match .keys2) (c .rotate-long2 .ensures)
 
 returns-4 : tie.Need-returns-4
-returns-4 c = rotating _ Asr _ (c .before .match .keys4) (c .long-rotate4 .ensures)
+returns-4 c = rotating _ Rrl _ (c .before .match .keys3) (c .rotate-long3 .ensures)
 
 returns-5 : tie.Need-returns-5
-returns-5 c = rotating _ Lsr _ (c .before .match .keys5) (c .long-rotate5 .ensures)
+returns-5 c = rotating _ Asr _ (c .before .match .keys4) (c .rotate-long4 .ensures)
 
 returns-6 : tie.Need-returns-6
-returns-6 c = rotating _ Rrr _ (c .before .match .keys6) (c .long-rotate6 .ensures)
+returns-6 c = rotating _ Lsr _ (c .before .match .keys5) (c .rotate-long5 .ensures)
 
 returns-7 : tie.Need-returns-7
-returns-7 c = search needs
+returns-7 c = rotating _ Rrr _ (c .before .match .keys6) (c .rotate-long6 .ensures)
 
 pub shift-long-spec : {M : Type 1} → statement M
 shift-long-spec =
     tie.close
     (tie.spec
-    long-rotate-requires
-    long-rotate-requires-2
-    long-rotate-requires-3
-    long-rotate-requires-4
-    long-rotate-requires-5
-    long-rotate-requires-6
+    rotate-long-requires
+    rotate-long-requires-2
+    rotate-long-requires-3
+    rotate-long-requires-4
+    rotate-long-requires-5
+    rotate-long-requires-6
     returns
     returns-2
     returns-3

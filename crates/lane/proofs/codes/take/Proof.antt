@@ -1,5 +1,5 @@
--- `codes::take` meets its contract: one access that succeeds, and the registers that follow. Assumes nothing.
-use Rattle.lane.proofs.Extended.{takes}
+-- `codes::take` meets its contract. Assumes nothing.
+use Rattle.lane.proofs.Ways.{finished-by}
 use borrow.Author.Needs.{needs}
 use Rattle.lane.proofs.codes.take.Statement.{statement}
 use Rattle.lane.proofs.codes.take.Tie as tie
@@ -13,11 +13,11 @@ enum-known-v c = search needs
 returns : tie.Need-returns
 returns c = search needs
 
-apply-requires : tie.Need-apply-requires
-apply-requires c κs = search needs
+finish-requires : tie.Need-finish-requires
+finish-requires c κs = search needs
 
 returns-2 : tie.Need-returns-2
-returns-2 c = takes _ _ _ (c .before .before .before .before .before .before .before .args .taking) _ (c .before .before .before .before .read-word .ensures) (c .before .before .v .given .1) (c .apply .ensures)
+returns-2 c = finished-by (c .before .before .before .before .before .before .before .args .pages .now) (c .before .before .before .before .before .before .before .args .memory .now) (c .before .before .before .before .before .before .before .args .r) (c .before .before .before .before .before .before .before .args .taking) (c .before .before .before .before .before .before .before .args .at) (c .finish .result) (c .before .before .before .before .read-word .ensures) (c .before .before .v .given .1) (c .finish .ensures)
 
 pub take-spec : {M : Type 1} → statement M
-take-spec = tie.close (tie.spec read-word-requires enum-known-v returns apply-requires returns-2)
+take-spec = tie.close (tie.spec read-word-requires enum-known-v returns finish-requires returns-2)
