@@ -166,22 +166,10 @@ fn asks(word: u16) -> Asked
     match word {
         0o100200 => Asked::Take(Taking::Multiply, Addressing::Plain),
         0o100400 => Asked::Take(Taking::Divide, Addressing::Plain),
-        0o101740 => Asked::Put(
-            Source::Register(Register::A),
-            Addressing::Indexed(Index::X),
-        ),
-        0o101750 => Asked::Put(
-            Source::Register(Register::A),
-            Addressing::Indexed(Index::Y),
-        ),
-        0o105740 => Asked::Put(
-            Source::Register(Register::B),
-            Addressing::Indexed(Index::X),
-        ),
-        0o105750 => Asked::Put(
-            Source::Register(Register::B),
-            Addressing::Indexed(Index::Y),
-        ),
+        0o101740 => Asked::Put(Source::Register(Register::A), Addressing::Indexed(Index::X)),
+        0o101750 => Asked::Put(Source::Register(Register::A), Addressing::Indexed(Index::Y)),
+        0o105740 => Asked::Put(Source::Register(Register::B), Addressing::Indexed(Index::X)),
+        0o105750 => Asked::Put(Source::Register(Register::B), Addressing::Indexed(Index::Y)),
         0o105743 => Asked::Put(Source::Index(Index::X), Addressing::Plain),
         0o105753 => Asked::Put(Source::Index(Index::Y), Addressing::Plain),
         0o101742 => Asked::Take(Taking::Load(Register::A), Addressing::Indexed(Index::X)),

@@ -9,10 +9,9 @@ use lane::lane::lane;
 ghost use mathlib.Core.Path.{_≡_};
 ghost use mathlib.Core.Bool.{true};
 ghost use lib.Dec.{eqb};
-ghost use Prim.Native.Nat.{_≤_, _-_};
 ghost use lib.ListN.{length};
 ghost use Rattle.machine.specs.Step.{goodCall, running, Leaves, Runs, Goes};
-ghost use Rattle.machine.specs.Turns.{Turned, plus};
+ghost use Rattle.machine.specs.Turns.{Turned};
 
 // The same record, made field by field: a call that takes it then leaves the caller's own in the processor's registers.
 fn apart(r: Registers) -> Registers
@@ -68,13 +67,28 @@ fn take_turn(r: Registers, pages: &[u16], memory: &mut [u16]) -> Turn
     })
 }
 
-// The steps that are left of a budget. Frequent steps go by the lane, and what it leaves by the general step.
-fn go_on(budget: u32, from: u32, r: Registers, pages: &[u16], memory: &mut [u16]) -> Ran
-    requires { ⌜ (from ≤ budget) × (goodCall (length (now pages)) (length (now memory)) r ≡ true) ⌝ }
-    ensures { λ s. ⌜ Goes (plus from (running (now (pages .entry)) (budget - from) r (now (memory .entry)))) s (now (memory .exit)) ⌝ }
+// The steps of a good call: a step keeps the call good, so it is not tested again. A trap that waits is met by the
+// first step and by no later one. Frequent steps go by the lane, and what it leaves by the general step.
+pub(crate) fn go(budget: u32, r: Registers, pages: &[u16], memory: &mut [u16]) -> Ran
+    requires { ⌜ goodCall (length (now pages)) (length (now memory)) r ≡ true ⌝ }
+    ensures { λ s. ⌜ Goes (running (now (pages .entry)) budget r (now (memory .entry))) s (now (memory .exit)) ⌝ }
 {
     let mut s = r;
-    let mut count = from;
+    let mut count: u32 = 0;
+    if r.trap != 0 {
+        if budget == 0 {
+            return Ran {
+                reply: Reply::Completed,
+                count: 0,
+                registers: r,
+            };
+        }
+        match take_turn(apart(r), pages, memory) {
+            Turn::Ended(x) => return x,
+            Turn::On(t) => s = apart(t),
+        }
+        count = 1;
+    }
     while count < budget {
         let l = lane(budget - count, s, pages, memory);
         s = l.registers;
@@ -96,7 +110,7 @@ fn go_on(budget: u32, from: u32, r: Registers, pages: &[u16], memory: &mut [u16]
                     registers: last,
                 };
             }
-            Turn::On(t) => s = t,
+            Turn::On(t) => s = apart(t),
         }
         count += 1;
     }
@@ -105,31 +119,6 @@ fn go_on(budget: u32, from: u32, r: Registers, pages: &[u16], memory: &mut [u16]
         count: count,
         registers: s,
     }
-}
-
-// The steps of a good call: a step keeps the call good, so it is not tested again. A trap that waits is met by the
-// first step and by no later one.
-pub(crate) fn go(budget: u32, r: Registers, pages: &[u16], memory: &mut [u16]) -> Ran
-    requires { ⌜ goodCall (length (now pages)) (length (now memory)) r ≡ true ⌝ }
-    ensures { λ s. ⌜ Goes (running (now (pages .entry)) budget r (now (memory .entry))) s (now (memory .exit)) ⌝ }
-{
-    let mut s = r;
-    let mut count: u32 = 0;
-    if r.trap != 0 {
-        if budget == 0 {
-            return Ran {
-                reply: Reply::Completed,
-                count: 0,
-                registers: r,
-            };
-        }
-        match take_turn(apart(r), pages, memory) {
-            Turn::Ended(x) => return x,
-            Turn::On(t) => s = t,
-        }
-        count = 1;
-    }
-    go_on(budget, count, s, pages, memory)
 }
 
 // A run of up to so many steps.
