@@ -360,6 +360,51 @@ fn runs() {
     }
 }
 
+// Each word at the first five places of a run, with budgets of 1 to 5: runs end
+// before it, at it and behind it, and what stands around it is taken by the lane
+// or left by it. Every word of the extended space at all 25 of them.
+#[test]
+fn every_word_where_a_run_ends() {
+    // INA, ALS, LDA 0, ADA 1, CAX, CXA, XAX; STO and CLO, which the lane leaves.
+    const AROUND: [u16; 9] =
+        [0o002004, 0o001000, 0o060000, 0o040001, 0o101741, 0o101744, 0o101747, 0o102101, 0o103101];
+    let mut random = Random::new(setting("A400_SEED", 1) ^ 0x1111);
+    let mut pair = Pair::new();
+    let mut met_at: BTreeMap<&'static str, [u64; 25]> = BTreeMap::new();
+    for word in 0..=u16::MAX {
+        let extended = word & 0o172000 == 0o100000;
+        let ends: Vec<usize> = if extended { (0..25).collect() } else { vec![random.below(25), random.below(25)] };
+        for end in ends {
+            let (before, budget) = (end as u16 / 5, end as u32 % 5 + 1);
+            for protection in [0, 0o100000] {
+                scenes::open(&mut random, &mut pair.paper, protection);
+                let p = pair.paper.record[P];
+                for place in 0..before {
+                    pair.paper.poke(p + place, random.pick(&AROUND));
+                }
+                pair.paper.poke(p + before, word);
+                // What follows, or the words that belong to it.
+                for place in 1..5 {
+                    if random.one_in(2) {
+                        pair.paper.poke(p + before + place, random.pick(&AROUND));
+                    }
+                }
+                pair.begin();
+                let met = pair.call(Call::Run(budget), &format!("word {word:06o} after {before}, budget {budget}"));
+                let reached = budget.min(u32::from(before));
+                assert!(met.count >= reached, "word {word:06o}: the {before} steps before it end after {}", met.count);
+                for name in instruction::mnemonics(word) {
+                    met_at.entry(name).or_default()[end] += 1;
+                }
+            }
+        }
+    }
+    for name in instruction::all_mnemonics() {
+        let missing = met_at[name].iter().position(|&count| count == 0);
+        assert_eq!(missing, None, "{name} was not met at every place with every budget");
+    }
+}
+
 // ---------------------------------------------------------------------------
 // The reader and the writer.
 
