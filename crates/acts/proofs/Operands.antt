@@ -1,5 +1,6 @@
 -- How a program goes on past its reading parts, and past a store that is its last act: what the proofs of the functions cite.
---     had-value, had-stop    `exec` of a part, by what a function gave
+--     reads, chases          what a read and a chain give to a program
+--     had-value to had-stop  `exec` of a part, by what a function gave
 --     direct                 an address word with bit 15 clear is the address
 --     Leads, by-chain, by-itself    where an address word leads: by a chain, or it is the address
 --     stopping               trouble leaves the registers that its answer has, and the memory
@@ -16,29 +17,44 @@ use lib.ListN.{length}
 use borrow.Author.Tests.{ne-eqb}
 use Rattle.word.specs.Words.{bit}
 use Rattle.maps.specs.Pages.{place}
+use Rattle.maps.specs.Access.{fetched}
+use Rattle.maps.specs.Chains.{chain}
 use Rattle.maps.proofs.Laws.{chain-direct}
 use Rattle.maps.specs.declared.pages.Map.{Map}
 use Rattle.maps.specs.declared.pages.Purpose.{Purpose}
 use Rattle.maps.specs.declared.pages.Place.{Place}
 use Rattle.acts.specs.Record.{withA, withB}
-use Rattle.acts.specs.Acts.{Act, fin, save, follow, done, onPlace, exec, answer, left, Ends, Performs, troubled, Gives}
+use Rattle.acts.specs.Acts.{Act, fin, load, save, follow, done, onPlace, exec, answer, left, Ends, Performs, troubled, Gives}
 use Rattle.acts.specs.declared.record.Registers.{Registers}
 use Rattle.acts.specs.declared.replies.Stepped.{Stepped}
-use Rattle.acts.specs.declared.replies.Trouble.{Trouble}
-use Rattle.acts.specs.declared.reads.Got.{Got}
+use Rattle.maps.specs.declared.troubles.Trouble.{Trouble}
+use Rattle.maps.specs.declared.troubles.Got.{Got}
 
 stays : (m : List ℕ) (t : Trouble) → m ≡ left m (troubled t)
-stays m Trouble.Violation = refl
+stays m Trouble.Closed = refl
 stays m Trouble.Endless = refl
-stays m Trouble.Absent = refl
+stays m (Trouble.Absent page) = refl
 stays m Trouble.InRegisters = refl
 
 pub stopping : {r : Registers} {m : List ℕ} (t : Trouble) {s : Stepped} → s ≡ answer r (troubled t) → Ends r m (troubled t) s m
 stopping {m = m} t e = record { outcome = e; memory = stays m t }
 
+-- what the two reading functions of `maps` promise
+module _ {pages : List ℕ} {r : Registers} {m : List ℕ} {g : Got} where
+  pub reads : {map : Map} {at : ℕ} → g ≡ fetched pages m (r .wmap) map at (r .a) (r .b) → Gives pages (load map at) r m g
+  unfolding exec
+  reads e = record { goes = λ k. rw e refl }
+
+  pub chases : {word : ℕ} → g ≡ chain pages m (r .wmap) word (r .a) (r .b) → Gives pages (follow word) r m g
+  unfolding exec
+  chases e = record { goes = λ k. rw e refl }
+
 module _ {pages : List ℕ} {part : (ℕ → Act) → Act} {r : Registers} {m : List ℕ} {g : Got} (h : Gives pages part r m g) where
   pub had-value : {v : ℕ} → g ≡ Got.Value v → (k : ℕ → Act) → exec pages (part k) r m ≡ exec pages (k v) r m
   had-value e k = rw e at (h .goes k)
+
+  pub had-on : {v : ℕ} {s : Stepped} {n : List ℕ} → g ≡ Got.Value v → (k : ℕ → Act) → Performs pages (k v) r m s n → Performs pages (part k) r m s n
+  had-on e k h = rw (had-value e k) h
 
   pub had-trouble : {t : Trouble} → g ≡ Got.Ends t → (k : ℕ → Act) → exec pages (part k) r m ≡ troubled t
   had-trouble e k = rw e at (h .goes k)
@@ -70,8 +86,7 @@ placed : (f : Registers → Registers) (r : Registers) (m : List ℕ) (v : ℕ) 
 placed f r m v Place.A a b = rw a
 placed f r m v Place.B a b = rw b
 placed f r m v (Place.Memory i) a b = refl
-placed f r m v Place.Closed a b = refl
-placed f r m v (Place.Absent page) a b = refl
+placed f r m v (Place.Ends t) a b = refl
 
 pub saved : (pages : List ℕ) (map : Map) (at v : ℕ) (k : Act) (r : Registers) (m : List ℕ)
     → exec pages (save map at v k) r m

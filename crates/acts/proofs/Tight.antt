@@ -12,23 +12,23 @@ use denote.Triple.Clauses.{AtExit}
 use denote.Ref.{now}
 use contract.Lifetimes.{Lfts}
 use mathlib.Core.Path.{_≡_, refl, sym, _∙_, ap}
-use mathlib.Core.Bool.{false, cond}
 use mathlib.Core.List.{List, []}
-use lib.Dec.{eqb}
 use Rattle.word.proofs.Tight.{OneResult}
 use Rattle.acts.specs.Record.{withA}
-use Rattle.acts.specs.Replies.{number}
-use Rattle.acts.specs.Acts.{Act, fin, violate, Result, done, violated, refused, exec, troubled, Ends, Gives}
+use Rattle.acts.specs.Acts.{Act, fin, violate, Result, done, violated, refused, badCall, exec, troubled, Ends, Gives}
 use Rattle.acts.specs.declared.record.Registers.{Registers}
 use Rattle.acts.specs.declared.replies.Stepped.{Stepped}
-use Rattle.acts.specs.declared.replies.Trouble.{Trouble}
-use Rattle.acts.specs.declared.reads.Got.{Got}
+use Rattle.maps.specs.declared.troubles.Trouble.{Trouble}
+use Rattle.maps.specs.declared.troubles.Got.{Got}
+use Rattle.acts.specs.declared.replies.Refusal.{Refusal}
 use Rattle.acts.proofs.replies.number_of.Kinds as number-of
 use Rattle.acts.proofs.replies.number_of.Reads as number-of-reads
 use Rattle.acts.proofs.replies.completed.Kinds as completed
 use Rattle.acts.proofs.replies.completed.Reads as completed-reads
 use Rattle.acts.proofs.replies.refuse.Kinds as refuse
 use Rattle.acts.proofs.replies.refuse.Reads as refuse-reads
+use Rattle.acts.proofs.replies.violate.Kinds as violates
+use Rattle.acts.proofs.replies.violate.Reads as violates-reads
 use Rattle.acts.proofs.replies.stop_by.Kinds as stop-by
 use Rattle.acts.proofs.replies.stop_by.Reads as stop-by-reads
 use Rattle.acts.proofs.record.fresh_record.Kinds as fresh-record
@@ -51,10 +51,6 @@ use Rattle.acts.proofs.record.go_skipping.Kinds as go-skipping
 use Rattle.acts.proofs.record.go_skipping.Reads as go-skipping-reads
 use Rattle.acts.proofs.record.interrupt.Kinds as interrupt
 use Rattle.acts.proofs.record.interrupt.Reads as interrupt-reads
-use Rattle.acts.proofs.reads.get_word.Kinds as get-word
-use Rattle.acts.proofs.reads.get_word.Reads as get-word-reads
-use Rattle.acts.proofs.reads.get_target.Kinds as get-target
-use Rattle.acts.proofs.reads.get_target.Reads as get-target-reads
 use Rattle.acts.proofs.reads.get_address.Kinds as get-address
 use Rattle.acts.proofs.reads.get_address.Reads as get-address-reads
 use Rattle.acts.proofs.stores.put_last.Kinds as put-last
@@ -74,32 +70,40 @@ ends-tight p q = (p .outcome ∙ sym (q .outcome), p .memory ∙ sym (q .memory)
 abbrev inA : Result → ℕ
 inA (done s m) = s .a
 inA violated = 0
-inA (refused reply) = 0
+inA (refused refusal) = 0
+inA badCall = 0
 
 abbrev isDone : Result → ℕ
 isDone (done s m) = 1
 isDone violated = 0
-isDone (refused reply) = 0
-
--- the paper's number of a result that is no end of a program
-abbrev numbered : Result → ℕ
-numbered (done s m) = 0
-numbered violated = 1
-numbered (refused reply) = number reply
+isDone (refused refusal) = 0
+isDone badCall = 0
 
 not-done : (t : Trouble) → isDone (troubled t) ≡ 0
-not-done Trouble.Violation = refl
+not-done Trouble.Closed = refl
+not-done (Trouble.Absent page) = refl
 not-done Trouble.Endless = refl
-not-done Trouble.Absent = refl
 not-done Trouble.InRegisters = refl
 
-abbrev troubleOf : ℕ → Trouble
-troubleOf n = cond (eqb n 1) Trouble.Violation (cond (eqb n 3) Trouble.Endless (cond (eqb n 4) Trouble.Absent Trouble.InRegisters))
+-- a result tells the trouble that led to it
+abbrev refusedBy : Refusal → Trouble
+refusedBy Refusal.InputOutput = Trouble.Closed
+refusedBy Refusal.Endless = Trouble.Endless
+refusedBy (Refusal.Absent page) = Trouble.Absent page
+refusedBy Refusal.InRegisters = Trouble.InRegisters
+refusedBy Refusal.NotBuilt = Trouble.Closed
+refusedBy Refusal.TrapCell = Trouble.Closed
 
-told : (t : Trouble) → troubleOf (numbered (troubled t)) ≡ t
-told Trouble.Violation = refl
+abbrev endedBy : Result → Trouble
+endedBy (done s m) = Trouble.Closed
+endedBy violated = Trouble.Closed
+endedBy (refused refusal) = refusedBy refusal
+endedBy badCall = Trouble.Closed
+
+told : (t : Trouble) → endedBy (troubled t) ≡ t
+told Trouble.Closed = refl
+told (Trouble.Absent page) = refl
 told Trouble.Endless = refl
-told Trouble.Absent = refl
 told Trouble.InRegisters = refl
 
 apart : {pages : List ℕ} {part : (ℕ → Act) → Act} {r : Registers} {m : List ℕ} {X : Type 0} (v : ℕ) (t : Trouble)
@@ -120,7 +124,7 @@ gives-tight (Got.Value v) (Got.Ends t) p p′ = apart v t p p′
 gives-tight (Got.Ends t) (Got.Value v) p p′ = apart v t p′ p
 gives-tight (Got.Ends t) (Got.Ends t′) p p′ =
     let e = sym (p .goes (λ _. violate)) ∙ p′ .goes (λ _. violate) in
-    ap Got.Ends (sym (told t) ∙ ap (λ x. troubleOf (numbered x)) e ∙ told t′)
+    ap Got.Ends (sym (told t) ∙ ap endedBy e ∙ told t′)
 
 pub number-of-tight : OneResult 0 number-of.ps number-of.r number-of-reads.Post
 number-of-tight κs a x y s t p q = p ∙ sym q
@@ -130,6 +134,9 @@ completed-tight κs a x y s t p q = p ∙ sym q
 
 pub refuse-tight : OneResult 0 refuse.ps refuse.r refuse-reads.Post
 refuse-tight κs a x y s t p q = p ∙ sym q
+
+pub violate-tight : OneResult 0 violates.ps violates.r violates-reads.Post
+violate-tight κs a x y s t p q = p ∙ sym q
 
 pub stop-by-tight : OneResult 0 stop-by.ps stop-by.r stop-by-reads.Post
 stop-by-tight κs a x y s t p q = p ∙ sym q
@@ -163,14 +170,6 @@ go-skipping-tight κs a x y s t p q = p ∙ sym q
 
 pub interrupt-tight : OneResult 0 interrupt.ps interrupt.r interrupt-reads.Post
 interrupt-tight κs a x y s t p q = p ∙ sym q
-
-pub get-word-tight : OneResult 2 get-word.ps get-word.r get-word-reads.Post
-get-word-tight κs a x y s t p q = gives-tight x y p q
-
-pub get-target-tight : OneResult 2 get-target.ps get-target.r get-target-reads.Post
-get-target-tight κs a x y s t p q =
-    let r : Registers = record { a = a .1 .1 .0; b = a .1 .1 .1 .0; x = 0; y = 0; p = 0; e = false; o = false; wmap = a .1 .0; imap = 0; violation = 0; interrupt = 0; trap = 0; switches = 0; lights = 0 } in
-    gives-tight x y (p r refl refl refl) (q r refl refl refl)
 
 pub get-address-tight : OneResult 2 get-address.ps get-address.r get-address-reads.Post
 get-address-tight κs a x y s t p q = gives-tight x y p q

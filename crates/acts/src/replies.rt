@@ -1,20 +1,40 @@
 // What a step replies. The paper's numbers are in specs/Replies.
 use crate::record::Registers;
 use crate::record::interrupt;
+use maps::troubles::Trouble;
 ghost use mathlib.Core.Path.{_≡_};
 ghost use Rattle.acts.specs.Replies.{number};
+ghost use Rattle.acts.specs.Record.{interrupted};
 ghost use Rattle.acts.specs.Acts.{answer, troubled};
+
+// Why a step is refused. An absent page is told by its number.
+pub enum Refusal {
+    InputOutput,
+    Endless,
+    Absent(u16),
+    InRegisters,
+    NotBuilt,
+    TrapCell,
+}
 
 pub enum Reply {
     Completed,
     Violation,
-    InputOutput,
-    Endless,
-    Absent,
-    InRegisters,
-    NotBuilt,
-    TrapCell,
+    Refused(Refusal),
     BadCall,
+}
+
+fn refusal_number(refusal: Refusal) -> u32
+    ensures { λ n. ⌜ n ≡ number (Reply.Refused refusal) ⌝ }
+{
+    match refusal {
+        Refusal::InputOutput => 2,
+        Refusal::Endless => 3,
+        Refusal::Absent(_) => 4,
+        Refusal::InRegisters => 5,
+        Refusal::NotBuilt => 6,
+        Refusal::TrapCell => 7,
+    }
 }
 
 // The paper's number of a reply.
@@ -24,12 +44,7 @@ pub fn number_of(reply: Reply) -> u32
     match reply {
         Reply::Completed => 0,
         Reply::Violation => 1,
-        Reply::InputOutput => 2,
-        Reply::Endless => 3,
-        Reply::Absent => 4,
-        Reply::InRegisters => 5,
-        Reply::NotBuilt => 6,
-        Reply::TrapCell => 7,
+        Reply::Refused(refusal) => refusal_number(refusal),
         Reply::BadCall => 8,
     }
 }
@@ -56,21 +71,23 @@ pub fn completed(r: Registers) -> Stepped
     }
 }
 
-pub fn refuse(reply: Reply, r: Registers) -> Stepped
-    ensures { λ s. ⌜ s ≡ record { reply = reply; registers = r } ⌝ }
+pub fn refuse(refusal: Refusal, r: Registers) -> Stepped
+    ensures { λ s. ⌜ s ≡ record { reply = Reply.Refused refusal; registers = r } ⌝ }
 {
     Stepped {
-        reply: reply,
+        reply: Reply::Refused(refusal),
         registers: r,
     }
 }
 
-// What ends a step while it has changed nothing.
-pub enum Trouble {
-    Violation,
-    Endless,
-    Absent,
-    InRegisters,
+// A violation interrupts.
+pub fn violate(r: Registers) -> Stepped
+    ensures { λ s. ⌜ s ≡ record { reply = Reply.Violation; registers = interrupted r } ⌝ }
+{
+    Stepped {
+        reply: Reply::Violation,
+        registers: interrupt(r),
+    }
 }
 
 // The step has ended: a violation interrupts, any other trouble leaves the registers as given.
@@ -78,9 +95,9 @@ pub fn stop_by(t: Trouble, r: Registers) -> Stepped
     ensures { λ s. ⌜ s ≡ answer r (troubled t) ⌝ }
 {
     match t {
-        Trouble::Violation => refuse(Reply::Violation, interrupt(r)),
-        Trouble::Endless => refuse(Reply::Endless, r),
-        Trouble::Absent => refuse(Reply::Absent, r),
-        Trouble::InRegisters => refuse(Reply::InRegisters, r),
+        Trouble::Closed => violate(r),
+        Trouble::Absent(page) => refuse(Refusal::Absent(page), r),
+        Trouble::Endless => refuse(Refusal::Endless, r),
+        Trouble::InRegisters => refuse(Refusal::InRegisters, r),
     }
 }

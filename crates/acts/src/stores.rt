@@ -3,7 +3,6 @@ use crate::record::Registers;
 use crate::record::go_to;
 use crate::record::set_register;
 use crate::replies::Stepped;
-use crate::replies::Trouble;
 use crate::replies::completed;
 use crate::replies::stop_by;
 use code::codes::Register;
@@ -29,8 +28,7 @@ pub fn put_last(
         Place::A => completed(set_register(Register::A, s, value)),
         Place::B => completed(set_register(Register::B, s, value)),
         Place::Memory(_) => completed(s),
-        Place::Closed => stop_by(Trouble::Violation, r),
-        Place::Absent(_) => stop_by(Trouble::Absent, r),
+        Place::Ends(t) => stop_by(t, r),
     }
 }
 

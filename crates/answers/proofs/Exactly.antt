@@ -1,5 +1,5 @@
 -- The theorems of specs/Exactly, by name.
---     ending-of            a result that refuses with 2 to 7 only, by its number
+--     ending-of            the result of a program, by its number
 --     running-fair .. running-count    of the steps of a good call: the reply, and the count
 -- Assumes nothing.
 use Prim.Native.Nat.{ℕ, zero, suc, _+_, _≤_}
@@ -11,38 +11,34 @@ use lib.Dec.{T, eqb, leb, leb→le}
 use lib.ListN.{length}
 use Rattle.word.specs.Words.{weight}
 use Rattle.code.proofs.Truth.{never}
-use Rattle.acts.specs.Acts.{Result, done, violated, refused, exec, answer, left}
+use Rattle.acts.specs.Acts.{Result, done, violated, refused, badCall, exec, answer, left}
 use Rattle.acts.specs.Replies.{number}
 use Rattle.machine.specs.Step.{goodCall, stepped, Leaves, ending, counting, after, running, ran}
 use Rattle.acts.specs.declared.record.Registers.{Registers}
+use Rattle.acts.specs.declared.replies.Refusal.{Refusal}
 use Rattle.acts.specs.declared.replies.Reply.{Reply}
 use Rattle.acts.specs.declared.replies.Stepped.{Stepped}
-use Rattle.rules.proofs.Valid.{Refusal, Fair, step-fair}
+use Rattle.acts.proofs.Keeping.{Fair, exec-fair}
+use Rattle.rules.specs.Rules.{stepAct}
 use Rattle.machine.proofs.Good.{good-valid, good-stepped, good-kept}
 use Rattle.answers.specs.Exactly.{Ending, completed, interrupted, refused-with, StepGood, RuleRefuses, StepBad, StepGoodOnly, RunBad, RunGoodOnly, RunSpent, RunCount}
 
-two-to-seven : (reply : Reply) → Refusal reply → (2 ≤ number reply) × (number reply ≤ 7)
-two-to-seven Reply.Completed t = absurd t
-two-to-seven Reply.Violation t = absurd t
-two-to-seven Reply.InputOutput t = (omega arith, omega arith)
-two-to-seven Reply.Endless t = (omega arith, omega arith)
-two-to-seven Reply.Absent t = (omega arith, omega arith)
-two-to-seven Reply.InRegisters t = (omega arith, omega arith)
-two-to-seven Reply.NotBuilt t = (omega arith, omega arith)
-two-to-seven Reply.TrapCell t = (omega arith, omega arith)
-two-to-seven Reply.BadCall t = absurd t
+pub rule-refuses : RuleRefuses
+rule-refuses Refusal.InputOutput = (omega arith, omega arith)
+rule-refuses Refusal.Endless = (omega arith, omega arith)
+rule-refuses (Refusal.Absent page) = (omega arith, omega arith)
+rule-refuses Refusal.InRegisters = (omega arith, omega arith)
+rule-refuses Refusal.NotBuilt = (omega arith, omega arith)
+rule-refuses Refusal.TrapCell = (omega arith, omega arith)
 
 ending-of : (r : Registers) (x : Result) → Fair x → Ending x (number (answer r x .reply))
 ending-of r (done s n) t = completed s n refl
 ending-of r violated t = interrupted refl
-ending-of r (refused reply) t = let b = two-to-seven reply t in refused-with reply refl (b .0) (b .1)
+ending-of r (refused refusal) t = refused-with refusal refl
+ending-of r badCall t = absurd t
 
 pub step-good : StepGood
-step-good pages r m good =
-    rw (good-stepped pages r m good) (ending-of r _ (step-fair pages r m (good-valid (length pages) (length m) r good)))
-
-pub rule-refuses : RuleRefuses
-rule-refuses pages r m v reply e = two-to-seven reply (rw e at (step-fair pages r m v))
+step-good pages r m good = rw (good-stepped pages r m good) (ending-of r _ (exec-fair pages (stepAct r) r m))
 
 pub step-bad : StepBad
 unfolding stepped
@@ -51,7 +47,7 @@ step-bad pages r m bad = rw bad
 below-eight : {x : Result} {n : ℕ} → Ending x n → n ≤ 7
 below-eight (completed s n e) = omega arith
 below-eight (interrupted e) = omega arith
-below-eight (refused-with reply e l h) = h
+below-eight (refused-with refusal e) = rule-refuses refusal .1
 
 pub step-good-only : StepGoodOnly
 step-good-only pages r m good = below-eight (step-good pages r m good)

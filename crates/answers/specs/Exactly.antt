@@ -18,13 +18,14 @@ use Rattle.acts.specs.Record.{valid}
 use Rattle.rules.specs.Rules.{stepAct}
 use Rattle.machine.specs.Step.{goodCall, stepped, ran}
 use Rattle.acts.specs.declared.record.Registers.{Registers}
+use Rattle.acts.specs.declared.replies.Refusal.{Refusal}
 use Rattle.acts.specs.declared.replies.Reply.{Reply}
 
 -- how a step ended, by its number
 pub data Ending (result : Result) : ℕ → Type 0 where
   completed : (s : Registers) (n : List ℕ) → result ≡ done s n → Ending result 0
   interrupted : result ≡ violated → Ending result 1
-  refused-with : (reply : Reply) → result ≡ refused reply → 2 ≤ number reply → number reply ≤ 7 → Ending result (number reply)
+  refused-with : (refusal : Refusal) → result ≡ refused refusal → Ending result (number (Reply.Refused refusal))
 
 abbrev pub StepGood : Type 0
 StepGood =
@@ -33,8 +34,7 @@ StepGood =
 
 abbrev pub RuleRefuses : Type 0
 RuleRefuses =
-    (pages : List ℕ) (r : Registers) (m : List ℕ) → valid r ≡ true → (reply : Reply)
-    → exec pages (stepAct r) r m ≡ refused reply → (2 ≤ number reply) × (number reply ≤ 7)
+    (refusal : Refusal) → (2 ≤ number (Reply.Refused refusal)) × (number (Reply.Refused refusal) ≤ 7)
 
 abbrev pub StepBad : Type 0
 StepBad =

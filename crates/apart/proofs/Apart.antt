@@ -9,13 +9,13 @@ use mathlib.Core.List.{List, []}
 use lib.Dec.{eqb, ltb}
 use Rattle.maps.specs.Pages.{protecting}
 use Rattle.maps.specs.Open.{Agree}
-use Rattle.acts.specs.Acts.{Result, done, violated, refused, answer, left}
+use Rattle.acts.specs.Acts.{Result, done, violated, refused, badCall, answer, left}
 use Rattle.acts.specs.Replies.{number}
 use Rattle.machine.specs.Step.{stepped, ran}
 use Rattle.acts.specs.declared.record.Registers.{Registers}
 use Rattle.apart.specs.Alike.{Store, storedBy, Within, both-by, Kept, Apart, OneList, all-by}
 use Rattle.apart.specs.Apart.{StepApart, RunApart, StepPromise, RunPromise, StepStores, RunStores, RunDepends, RunKeeps, RunSize, JobsApart, StepTrouble, NoTrap}
-use Rattle.apart.proofs.Stores.{stores-kept, Results, all-done, all-violated, all-refused, step-results, Answers, all-ran, ran-answers}
+use Rattle.apart.proofs.Stores.{stores-kept, Results, all-done, all-ended, ended-left, step-results, Answers, all-ran, ran-answers}
 
 -- two memories that one list of stores was made in
 both-stored : {X : Type 0} (pages : List ℕ) (wmap : ℕ) (m m′ : List ℕ) {x x′ : X} {n n′ : List ℕ} (l : List Store) → Within pages wmap l
@@ -32,10 +32,8 @@ step-alike : (pages : List ℕ) (r : Registers) (m m′ : List ℕ) → Agree pa
 unfolding storedBy
 step-alike pages r m m′ agree (all-done s l h f) =
     rw (f m (same pages (r .wmap) m), f m′ agree) (both-stored pages (r .wmap) m m′ l h agree refl refl refl)
-step-alike pages r m m′ agree (all-violated f) =
-    rw (f m (same pages (r .wmap) m), f m′ agree) (both-stored pages (r .wmap) m m′ [] tt agree refl refl refl)
-step-alike pages r m m′ agree (all-refused reply f) =
-    rw (f m (same pages (r .wmap) m), f m′ agree) (both-stored pages (r .wmap) m m′ [] tt agree refl refl refl)
+step-alike pages r m m′ agree (all-ended x h f) =
+    rw (f m (same pages (r .wmap) m), f m′ agree) (both-stored pages (r .wmap) m m′ [] tt agree refl (ended-left x m h) (ended-left x m′ h))
 
 run-alike : (pages : List ℕ) (budget : ℕ) (r : Registers) (m m′ : List ℕ) → Agree pages (r .wmap) m m′
     → Answers pages (r .wmap) m (ran pages budget r)
@@ -66,8 +64,7 @@ step-stores pages r m on = go (step-results pages r m on)
   where
     go : Results pages (r .wmap) m (stepped pages r) → OneList pages (r .wmap) m (λ m′. left m′ (stepped pages r m′))
     go (all-done s l h f) = all-by l h (λ m′ a. rw (f m′ a))
-    go (all-violated f) = all-by [] tt (λ m′ a. rw (f m′ a))
-    go (all-refused reply f) = all-by [] tt (λ m′ a. rw (f m′ a))
+    go (all-ended x h f) = all-by [] tt (λ m′ a. rw (f m′ a) (ended-left x m′ h))
 
 pub run-stores : RunStores
 run-stores pages budget r m on = go (ran-answers pages budget r m on)
@@ -99,7 +96,8 @@ jobs-apart pages r q on on′ disjoint budget budget′ m =
 trouble : (r : Registers) (m : List ℕ) (x : Result) → (number (answer r x .reply) ≡ 0 → ⊥) → left m x ≡ m
 trouble r m (done s n) h = absurd (h refl)
 trouble r m violated h = refl
-trouble r m (refused reply) h = refl
+trouble r m (refused refusal) h = refl
+trouble r m badCall h = refl
 
 pub step-trouble : StepTrouble
 step-trouble pages r m h = trouble r m (stepped pages r m) h

@@ -22,6 +22,7 @@ use Rattle.maps.specs.Open.{OpenToRead, Agree}
 use Rattle.maps.specs.declared.pages.Map.{Map}
 use Rattle.acts.specs.Record.{withA, withP, interrupted}
 use Rattle.acts.specs.Acts.{exec}
+use Rattle.rules.specs.Rules.{trapRule}
 use Rattle.code.specs.Instructions.{memoryReference, reading}
 use Rattle.machine.specs.Step.{stepped, ending, running, ran}
 use Rattle.acts.specs.declared.record.Registers.{Registers}
@@ -153,5 +154,5 @@ another-register x = (refl, refl)
 -- more, and B holds what the closed page holds.
 pub after-interrupt : (x : ℕ)
     → ran shut 2 (interrupted (withP (withA protected 5) 6)) (program 2 ++ (5 ∷ replicate 1023 x)) .ran .registers .b ≡ x
-unfolding ran running stepped exec reading memoryReference fetched chain chased place isOpen presence spot sum
+unfolding ran running stepped exec trapRule reading memoryReference fetched chain chased place isOpen presence spot sum
 after-interrupt x = refl

@@ -21,15 +21,16 @@ use Rattle.maps.specs.Open.{OpenToStore, Agree}
 use Rattle.maps.proofs.Laws.{put-length, put-either, put-elsewhere, put-agree, place-open, fetched-agree, chain-agree}
 use Rattle.maps.specs.declared.pages.Purpose.{Purpose}
 use Rattle.maps.specs.declared.pages.Place.{Place}
-use Rattle.maps.specs.declared.pages.Presence.{Presence}
-use Rattle.maps.specs.declared.access.Fetched.{Fetched}
-use Rattle.maps.specs.declared.chains.Chain.{Chain}
+use Rattle.maps.specs.declared.troubles.Trouble.{Trouble}
+use Rattle.maps.specs.declared.troubles.Got.{Got}
+use Rattle.maps.specs.declared.troubles.Tested.{Tested}
 use Rattle.acts.specs.Record.{withA, withB, interrupted}
-use Rattle.acts.specs.Acts.{Act, fin, stop, violate, load, save, follow, opened, present, Result, done, violated, refused, onFetched, onChain, onPlace, onOpen, onPresence, exec, answer, left}
+use Rattle.acts.specs.Acts.{Act, fin, stop, violate, load, save, follow, opened, present, Result, done, violated, refused, badCall, troubled, onGot, onPlace, onOpen, onTested, exec, answer, left}
 use Rattle.acts.specs.Replies.{number}
 use Rattle.rules.specs.Rules.{stepAct}
 use Rattle.machine.specs.Step.{goodCall, stepped, Leaves, ending, counting, after, running, ran}
 use Rattle.acts.specs.declared.record.Registers.{Registers}
+use Rattle.acts.specs.declared.replies.Refusal.{Refusal}
 use Rattle.acts.specs.declared.replies.Reply.{Reply}
 use Rattle.acts.specs.declared.replies.Stepped.{Stepped}
 use Rattle.acts.specs.declared.replies.Ran.{Ran}
@@ -94,38 +95,59 @@ stores-kept pages wmap (s ∷ l) m m′ h agree =
     let first = one-kept pages wmap s m m′ (h .0) agree in
     then-kept pages wmap m m′ _ _ _ _ first (stores-kept pages wmap l _ _ (h .1) (first .opens))
 
+-- a result that completes nothing
+abbrev pub Ended : Result → Type 0
+Ended (done s m) = ⊥
+Ended violated = Unit
+Ended (refused refusal) = Unit
+Ended badCall = Unit
+
+pub ended-left : (x : Result) (m : List ℕ) → Ended x → left m x ≡ m
+ended-left (done s n) m h = absurd h
+ended-left violated m h = refl
+ended-left (refused refusal) m h = refl
+ended-left badCall m h = refl
+
+ended-number : (r : Registers) (x : Result) → Ended x → eqb (number (answer r x .reply)) 0 ≡ false
+ended-number r (done s n) h = absurd h
+ended-number r violated h = refl
+ended-number r (refused Refusal.InputOutput) h = refl
+ended-number r (refused Refusal.Endless) h = refl
+ended-number r (refused (Refusal.Absent page)) h = refl
+ended-number r (refused Refusal.InRegisters) h = refl
+ended-number r (refused Refusal.NotBuilt) h = refl
+ended-number r (refused Refusal.TrapCell) h = refl
+ended-number r badCall h = refl
+
 -- The results of a program, over every memory that agrees with m on the open pages: one ending, and one list of stores.
 pub data Results (pages : List ℕ) (wmap : ℕ) (m : List ℕ) (k : List ℕ → Result) : Type 0 where
   all-done : (s : Registers) (l : List Store) → Within pages wmap l
       → ((m′ : List ℕ) → Agree pages wmap m m′ → k m′ ≡ done s (storedBy l m′)) → Results pages wmap m k
-  all-violated : ((m′ : List ℕ) → Agree pages wmap m m′ → k m′ ≡ violated) → Results pages wmap m k
-  all-refused : (reply : Reply) → ((m′ : List ℕ) → Agree pages wmap m m′ → k m′ ≡ refused reply) → Results pages wmap m k
+  all-ended : (x : Result) → Ended x → ((m′ : List ℕ) → Agree pages wmap m m′ → k m′ ≡ x) → Results pages wmap m k
 
 module _ (pages : List ℕ) (wmap : ℕ) (m : List ℕ) where
   by-same : (k k′ : List ℕ → Result) → ((m′ : List ℕ) → Agree pages wmap m m′ → k m′ ≡ k′ m′) → Results pages wmap m k′ → Results pages wmap m k
   by-same k k′ e (all-done s l h f) = all-done s l h (λ m′ a. e m′ a ∙ f m′ a)
-  by-same k k′ e (all-violated f) = all-violated (λ m′ a. e m′ a ∙ f m′ a)
-  by-same k k′ e (all-refused reply f) = all-refused reply (λ m′ a. e m′ a ∙ f m′ a)
+  by-same k k′ e (all-ended x h f) = all-ended x h (λ m′ a. e m′ a ∙ f m′ a)
 
   -- by what an access answered
-  on-fetched : (x : Fetched) (k : ℕ → List ℕ → Result) → ((w : ℕ) → Results pages wmap m (k w)) → Results pages wmap m (λ m′. onFetched x (λ w. k w m′))
-  on-fetched (Fetched.Word w) k h = h w
-  on-fetched Fetched.Closed k h = all-violated (λ m′ a. refl)
-  on-fetched (Fetched.Absent page) k h = all-refused Reply.Absent (λ m′ a. refl)
+  on-trouble : (t : Trouble) → Results pages wmap m (λ m′. troubled t)
+  on-trouble Trouble.Closed = all-ended violated tt (λ m′ a. refl)
+  on-trouble (Trouble.Absent page) = all-ended (refused (Refusal.Absent page)) tt (λ m′ a. refl)
+  on-trouble Trouble.Endless = all-ended (refused Refusal.Endless) tt (λ m′ a. refl)
+  on-trouble Trouble.InRegisters = all-ended (refused Refusal.InRegisters) tt (λ m′ a. refl)
 
-  on-chain : (x : Chain) (k : ℕ → List ℕ → Result) → ((at : ℕ) → Results pages wmap m (k at)) → Results pages wmap m (λ m′. onChain x (λ at. k at m′))
-  on-chain (Chain.Address at) k h = h at
-  on-chain Chain.Endless k h = all-refused Reply.Endless (λ m′ a. refl)
-  on-chain Chain.Closed k h = all-violated (λ m′ a. refl)
-  on-chain (Chain.Absent page) k h = all-refused Reply.Absent (λ m′ a. refl)
+  on-got : (x : Got) (k : ℕ → List ℕ → Result) → ((w : ℕ) → Results pages wmap m (k w)) → Results pages wmap m (λ m′. onGot x (λ w. k w m′))
+  on-got (Got.Value w) k h = h w
+  on-got (Got.Ends t) k h = on-trouble t
 
   on-open : (x : Bool) (k : List ℕ → Result) → Results pages wmap m k → Results pages wmap m (λ m′. onOpen x (k m′))
   on-open true k h = h
-  on-open false k h = all-violated (λ m′ a. refl)
+  on-open false k h = all-ended violated tt (λ m′ a. refl)
 
-  on-presence : (x : Presence) (k : List ℕ → Result) → Results pages wmap m k → Results pages wmap m (λ m′. onPresence x (k m′))
-  on-presence Presence.Present k h = h
-  on-presence (Presence.Absent page) k h = all-refused Reply.Absent (λ m′ a. refl)
+  on-tested : (x : Tested) (k : List ℕ → Result) → Results pages wmap m k → Results pages wmap m (λ m′. onTested x (k m′))
+  on-tested Tested.Sound k h = h
+  on-tested (Tested.Ends t) k h = on-trouble t
 
   -- the first store of a program, and those that follow
   on-store : (index v : ℕ) (k : List ℕ → Result) → OpenToStore pages wmap (index / 1024)
@@ -133,9 +155,8 @@ module _ (pages : List ℕ) (wmap : ℕ) (m : List ℕ) where
   unfolding storedBy
   on-store index v k o (all-done s l h f) =
       all-done s (record { index = index; word = v } ∷ l) (o, h) (λ m′ a. f (set m′ index v) (put-agree pages wmap (Place.Memory index) m m′ v a))
-  on-store index v k o (all-violated f) = all-violated (λ m′ a. f (set m′ index v) (put-agree pages wmap (Place.Memory index) m m′ v a))
-  on-store index v k o (all-refused reply f) =
-      all-refused reply (λ m′ a. f (set m′ index v) (put-agree pages wmap (Place.Memory index) m m′ v a))
+  on-store index v k o (all-ended x h f) =
+      all-ended x h (λ m′ a. f (set m′ index v) (put-agree pages wmap (Place.Memory index) m m′ v a))
 
   on-place : (p : Place) (v : ℕ) (k : Registers → List ℕ → Result) (s : Registers)
       → ((index : ℕ) → p ≡ Place.Memory index → OpenToStore pages wmap (index / 1024))
@@ -145,20 +166,19 @@ module _ (pages : List ℕ) (wmap : ℕ) (m : List ℕ) where
   on-place Place.A v k s o a b w = a
   on-place Place.B v k s o a b w = b
   on-place (Place.Memory index) v k s o a b w = on-store index v (k s) (o index refl) (w index)
-  on-place Place.Closed v k s o a b w = all-violated (λ m′ a. refl)
-  on-place (Place.Absent page) v k s o a b w = all-refused Reply.Absent (λ m′ a. refl)
+  on-place (Place.Ends t) v k s o a b w = on-trouble t
 
 -- No instruction is looked at.
 pub exec-results : (pages : List ℕ) (act : Act) (s : Registers) (m : List ℕ) → protecting (s .wmap) ≡ true
     → Results pages (s .wmap) m (exec pages act s)
 unfolding exec storedBy
 exec-results pages (fin f) s m on = all-done (f s) [] tt (λ m′ a. refl)
-exec-results pages (stop reply) s m on = all-refused reply (λ m′ a. refl)
-exec-results pages violate s m on = all-violated (λ m′ a. refl)
+exec-results pages (stop refusal) s m on = all-ended (refused refusal) tt (λ m′ a. refl)
+exec-results pages violate s m on = all-ended violated tt (λ m′ a. refl)
 exec-results pages (load map at k) s m on =
-    by-same pages (s .wmap) m _ (λ m′. onFetched (fetched pages m (s .wmap) map at (s .a) (s .b)) (λ w. exec pages (k w) s m′))
+    by-same pages (s .wmap) m _ (λ m′. onGot (fetched pages m (s .wmap) map at (s .a) (s .b)) (λ w. exec pages (k w) s m′))
     (λ m′ a. rw (fetched-agree pages (s .wmap) m m′ map at (s .a) (s .b) on a))
-    (on-fetched pages (s .wmap) m (fetched pages m (s .wmap) map at (s .a) (s .b)) (λ w. exec pages (k w) s) (λ w. exec-results pages (k w) s m on))
+    (on-got pages (s .wmap) m (fetched pages m (s .wmap) map at (s .a) (s .b)) (λ w. exec pages (k w) s) (λ w. exec-results pages (k w) s m on))
 exec-results pages (save map at v k) s m on =
     let p : Place = place pages (s .wmap) map Purpose.Store at (length m) in
     by-same pages (s .wmap) m _ (λ m′. onPlace p v (exec pages k) s m′)
@@ -168,26 +188,26 @@ exec-results pages (save map at v k) s m on =
     (exec-results pages k (withA s v) m on) (exec-results pages k (withB s v) m on)
     (λ index. exec-results pages k s (set m index v) on))
 exec-results pages (follow word k) s m on =
-    by-same pages (s .wmap) m _ (λ m′. onChain (chain pages m (s .wmap) word (s .a) (s .b)) (λ at. exec pages (k at) s m′))
+    by-same pages (s .wmap) m _ (λ m′. onGot (chain pages m (s .wmap) word (s .a) (s .b)) (λ at. exec pages (k at) s m′))
     (λ m′ a. rw (chain-agree pages (s .wmap) m m′ word (s .a) (s .b) on a))
-    (on-chain pages (s .wmap) m (chain pages m (s .wmap) word (s .a) (s .b)) (λ at. exec pages (k at) s) (λ at. exec-results pages (k at) s m on))
+    (on-got pages (s .wmap) m (chain pages m (s .wmap) word (s .a) (s .b)) (λ at. exec pages (k at) s) (λ at. exec-results pages (k at) s m on))
 exec-results pages (opened map purpose at k) s m on =
     on-open pages (s .wmap) m (isOpen pages (s .wmap) map purpose at) (exec pages k s) (exec-results pages k s m on)
 exec-results pages (present map at k) s m on =
-    by-same pages (s .wmap) m _ (λ m′. onPresence (presence pages (s .wmap) map at (length m)) (exec pages k s m′))
+    by-same pages (s .wmap) m _ (λ m′. onTested (presence pages (s .wmap) map at (length m)) (exec pages k s m′))
     (λ m′ a. rw (a .lengths))
-    (on-presence pages (s .wmap) m (presence pages (s .wmap) map at (length m)) (exec pages k s) (exec-results pages k s m on))
+    (on-tested pages (s .wmap) m (presence pages (s .wmap) map at (length m)) (exec pages k s) (exec-results pages k s m on))
 
 pub step-results : (pages : List ℕ) (r : Registers) (m : List ℕ) → protecting (r .wmap) ≡ true
     → Results pages (r .wmap) m (stepped pages r)
 unfolding stepped
 step-results pages r m on =
-    by-same pages (r .wmap) m _ (λ m′. cond (goodCall (length pages) (length m) r) (exec pages (stepAct r) r m′) (refused Reply.BadCall))
+    by-same pages (r .wmap) m _ (λ m′. cond (goodCall (length pages) (length m) r) (exec pages (stepAct r) r m′) badCall)
     (λ m′ a. rw (a .lengths)) (go (goodCall (length pages) (length m) r))
   where
-    go : (b : Bool) → Results pages (r .wmap) m (λ m′. cond b (exec pages (stepAct r) r m′) (refused Reply.BadCall))
+    go : (b : Bool) → Results pages (r .wmap) m (λ m′. cond b (exec pages (stepAct r) r m′) badCall)
     go true = exec-results pages (stepAct r) r m on
-    go false = all-refused Reply.BadCall (λ m′ a. refl)
+    go false = all-ended badCall tt (λ m′ a. refl)
 
 -- The answers of a run, over every memory that agrees with m on the open pages: one answer, and one list of stores.
 pub data Answers (pages : List ℕ) (wmap : ℕ) (m : List ℕ) (k : List ℕ → Leaves) : Type 0 where
@@ -221,20 +241,13 @@ running-answers pages (suc n) r m on = go (λ s k. running-answers pages n s k) 
         all-ran (ending (t .reply) (weight (eqb (number (t .reply)) 1)) (t .registers) [] .ran) [] tt
         (λ m′ a. rw (f m′ a .0, f m′ a .1, z))
 
-    refusing : Rest → (reply : Reply) (b : Bool) → eqb (number reply) 0 ≡ b
-        → ((m′ : List ℕ) → Agree pages (r .wmap) m m′ → stepped pages r m′ ≡ refused reply)
-        → Answers pages (r .wmap) m (running pages (suc n) r)
-    refusing rest reply true z f = goes-on r [] tt (λ m′ a. rw (f m′ a, z)) (rest r m on)
-    refusing rest reply false z f = ends (record { reply = reply; registers = r }) z (λ m′ a. rw (f m′ a) (refl, refl))
-
     go : Rest → Results pages (r .wmap) m (stepped pages r) → Answers pages (r .wmap) m (running pages (suc n) r)
     go rest (all-done s l h f) =
         let e : s .wmap ≡ r .wmap = rw (f m (record { lengths = refl; words = λ index o. refl })) at (step-stays pages r m) refl in
         goes-on s l h (λ m′ a. rw (f m′ a))
         (subst (λ (w : ℕ). Answers pages w (storedBy l m) (running pages n s)) e
         (rest s (storedBy l m) (ap protecting e ∙ on)))
-    go rest (all-violated f) = ends (record { reply = Reply.Violation; registers = interrupted r }) refl (λ m′ a. rw (f m′ a) (refl, refl))
-    go rest (all-refused reply f) = refusing rest reply (eqb (number reply) 0) refl f
+    go rest (all-ended x h f) = ends (answer r x) (ended-number r x h) (λ m′ a. rw (f m′ a) (refl, ended-left x m′ h))
 
 pub ran-answers : (pages : List ℕ) (budget : ℕ) (r : Registers) (m : List ℕ) → protecting (r .wmap) ≡ true
     → Answers pages (r .wmap) m (ran pages budget r)

@@ -29,7 +29,7 @@ use Rattle.code.specs.declared.instructions.ShiftRotate.{ShiftRotate}
 use Rattle.code.specs.declared.instructions.AlterSkip.{AlterSkip}
 use Rattle.code.specs.declared.instructions.IoOperation.{IoOperation}
 use Rattle.code.specs.declared.instructions.IoOperation.the-variants.{Hlt, Flag, Sfc, Sfs, Mia, Lia, Ota, Control}
-use Rattle.acts.specs.declared.replies.Reply.{Reply}
+use Rattle.acts.specs.declared.replies.Refusal.{Refusal}
 use Rattle.acts.specs.declared.replies.Stepped.{Stepped}
 use Rattle.acts.specs.Acts.{Act, fin, stop, violate, Performs}
 use Rattle.maps.specs.Pages.{protecting}
@@ -110,14 +110,14 @@ picked bit11 = cond bit11 B A
 -- 01: "Select code 01: STF sets O, CLF clears it, SFC and SFS test it, and bit 9 with SFC or SFS clears O afterwards. LIA 01
 -- gives switches times 256, OTA 01 puts the low byte in the lights, both with bit 9 clear. The remaining I/O codes reply 2."
 unfoldable pub panelAct : IoOperation → Bool → Bool → Act
-panelAct Hlt bit11 bit9 = stop Reply.InputOutput
+panelAct Hlt bit11 bit9 = stop Refusal.InputOutput
 panelAct Flag bit11 bit9 = fin (λ s. ahead 1 (withO s (not bit9)))
 panelAct Sfc bit11 bit9 = fin (λ s. ahead (1 + weight (not (s .o))) (withO s (s .o && not bit9)))
 panelAct Sfs bit11 bit9 = fin (λ s. ahead (1 + weight (s .o)) (withO s (s .o && not bit9)))
-panelAct Mia bit11 bit9 = stop Reply.InputOutput
-panelAct Lia bit11 bit9 = cond bit9 (stop Reply.InputOutput) (fin (λ s. ahead 1 (withRegister (picked bit11) s (s .switches * 256))))
-panelAct Ota bit11 bit9 = cond bit9 (stop Reply.InputOutput) (fin (λ s. ahead 1 (withLights s (inRegister (picked bit11) s % 256))))
-panelAct Control bit11 bit9 = stop Reply.InputOutput
+panelAct Mia bit11 bit9 = stop Refusal.InputOutput
+panelAct Lia bit11 bit9 = cond bit9 (stop Refusal.InputOutput) (fin (λ s. ahead 1 (withRegister (picked bit11) s (s .switches * 256))))
+panelAct Ota bit11 bit9 = cond bit9 (stop Refusal.InputOutput) (fin (λ s. ahead 1 (withLights s (inRegister (picked bit11) s % 256))))
+panelAct Control bit11 bit9 = stop Refusal.InputOutput
 
 abbrev pub isHalt : IoOperation → Bool
 isHalt Hlt = true
@@ -133,7 +133,7 @@ isHalt Control = false
 unfoldable pub ioAct : IoOperation → Bool → Bool → ℕ → Registers → Act
 ioAct io bit11 bit9 select r =
     cond (protecting (r .wmap) && (isHalt io || not (eqb select 1))) violate
-    (cond (eqb select 1) (panelAct io bit11 bit9) (stop Reply.InputOutput))
+    (cond (eqb select 1) (panelAct io bit11 bit9) (stop Refusal.InputOutput))
 
 -- what a function that carries out a program of no accesses promises: the same whatever page registers and memory hold
 abbrev pub PerformsAlone : Act → Registers → Stepped → Type 0

@@ -2,7 +2,7 @@
 --     flagged             E and O by a sum
 --     taken               the word read, and the registers that follow
 --     stored, addressed   what is stored, and where
---     wayAct              the accesses of each way
+--     storable, wayAct    the accesses of each way
 -- Which instruction goes which way is in `Rules` of the crate `rules`. Assumes nothing.
 use Prim.Native.Nat.{ℕ, _+_, _%_}
 use mathlib.Core.Bool.{Bool, true, false, not, _||_}
@@ -15,8 +15,9 @@ use Rattle.word.specs.declared.sums.Sum.{Sum}
 use Rattle.word.specs.declared.products.Product.{Product}
 use Rattle.word.specs.declared.products.Quotient.{Quotient}
 use Rattle.maps.specs.declared.pages.Map.{Map}
+use Rattle.maps.specs.declared.pages.Purpose.{Purpose}
 use Rattle.acts.specs.Record.{withA, withB, withE, withO, inRegister, withRegister, inIndex, withIndex, ahead}
-use Rattle.acts.specs.Acts.{Act, fin, load, save, goOn}
+use Rattle.acts.specs.Acts.{Act, fin, load, save, opened, present, goOn}
 use Rattle.acts.specs.declared.record.Registers.{Registers}
 use Rattle.effects.specs.declared.ways.Taking.{Taking}
 use Rattle.effects.specs.declared.ways.Taking.the-variants.{And, Xor, Ior, Add, Compare, Load, Multiply, Divide, LoadIndex, AddIndex}
@@ -59,6 +60,10 @@ abbrev pub addressed : Addressing → ℕ → Registers → ℕ
 addressed Plain m r = m
 addressed (Indexed i) m r = address m (inIndex i r)
 
+-- the tests of a store alone
+abbrev pub storable : ℕ → Act → Act
+storable at k = opened Map.Execute Purpose.Store at (present Map.Execute at k)
+
 -- r are the registers at the instruction's start, m its address, n its words
 abbrev pub wayAct : Way → Registers → ℕ → ℕ → Act
 wayAct (Take t map x) r m n = load map (addressed x m r) (λ w. fin (taken t w n))
@@ -66,7 +71,9 @@ wayAct (Put s map x) r m n = save map (addressed x m r) (stored s r) (goOn (addr
 -- 01: "DLD reads both words before it changes A or B."
 wayAct LoadDouble r m n = load Map.Execute m (λ v. load Map.Execute (address m 1) (λ w. fin (λ s. ahead n (withB (withA s v) w))))
 -- 01: "DST stores the values at the start and tests both words before storing."
-wayAct StoreDouble r m n = save Map.Execute m (r .a) (save Map.Execute (address m 1) (r .b) (goOn (address (r .p) n)))
+wayAct StoreDouble r m n =
+    storable m (storable (address m 1)
+    (save Map.Execute m (r .a) (save Map.Execute (address m 1) (r .b) (goOn (address (r .p) n)))))
 -- 01: "ISZ reads, then stores the word plus one and skips if that is 0; E and O stay."
 wayAct StepAndSkip r m n =
     load Map.Execute m (λ w. save Map.Execute m (incremented w .word) (goOn (address (r .p) (n + weight (eqb (incremented w .word) 0)))))

@@ -7,12 +7,11 @@ use acts::record::index;
 use acts::record::register;
 use acts::record::set_index;
 use acts::record::set_register;
-use acts::replies::Reply;
+use acts::replies::Refusal;
 use acts::replies::Stepped;
-use acts::replies::Trouble;
 use acts::replies::completed;
 use acts::replies::refuse;
-use acts::replies::stop_by;
+use acts::replies::violate;
 use code::codes::Index;
 use code::codes::Register;
 use code::instructions::Alter;
@@ -247,24 +246,24 @@ fn panel(io: IoOperation, bit11: bool, bit9: bool, r: Registers) -> Stepped
     ensures { λ s. ⌜ PerformsAlone (panelAct io bit11 bit9) r s ⌝ }
 {
     match io {
-        IoOperation::Hlt => refuse(Reply::InputOutput, r),
+        IoOperation::Hlt => refuse(Refusal::InputOutput, r),
         IoOperation::Flag => completed(set_overflow(!bit9, r)),
         IoOperation::Sfc => completed(test_overflow(!r.o, bit9, r)),
         IoOperation::Sfs => completed(test_overflow(r.o, bit9, r)),
-        IoOperation::Mia => refuse(Reply::InputOutput, r),
+        IoOperation::Mia => refuse(Refusal::InputOutput, r),
         IoOperation::Lia => {
             if bit9 {
-                return refuse(Reply::InputOutput, r);
+                return refuse(Refusal::InputOutput, r);
             }
             completed(take_switches(register_of(bit11), r))
         }
         IoOperation::Ota => {
             if bit9 {
-                return refuse(Reply::InputOutput, r);
+                return refuse(Refusal::InputOutput, r);
             }
             completed(put_lights(register_of(bit11), r))
         }
-        IoOperation::Control => refuse(Reply::InputOutput, r),
+        IoOperation::Control => refuse(Refusal::InputOutput, r),
     }
 }
 
@@ -273,10 +272,10 @@ pub fn input_output(io: IoOperation, bit11: bool, bit9: bool, select: u16, r: Re
     ensures { λ s. ⌜ PerformsAlone (ioAct io bit11 bit9 select r) r s ⌝ }
 {
     if high_bit(r.wmap) & (is_halt(io) | (select != 1)) {
-        return stop_by(Trouble::Violation, r);
+        return violate(r);
     }
     if select == 1 {
         return panel(io, bit11, bit9, r);
     }
-    refuse(Reply::InputOutput, r)
+    refuse(Refusal::InputOutput, r)
 }

@@ -1,6 +1,4 @@
 // The ways in which an instruction works on the word at its address.
-use acts::reads::Got;
-use acts::reads::get_word;
 use acts::record::Registers;
 use acts::record::go_ahead;
 use acts::record::go_skipping;
@@ -11,16 +9,18 @@ use acts::record::set_index;
 use acts::record::set_register;
 use acts::record::skipping;
 use acts::replies::Stepped;
-use acts::replies::Trouble;
 use acts::replies::completed;
 use acts::replies::stop_by;
 use acts::stores::put;
 use code::codes::Index;
 use code::codes::Register;
+use maps::access::read_word;
 use maps::pages::Map;
 use maps::pages::Place;
 use maps::pages::Purpose;
 use maps::pages::place_of;
+use maps::troubles::Got;
+use maps::troubles::Tested;
 use word::products::Product;
 use word::products::Quotient;
 use word::products::divide;
@@ -145,7 +145,7 @@ pub(crate) fn take(
 ) -> Stepped
     ensures { λ s. ⌜ Performs (now (pages .entry)) (load map at (λ w. fin (taken taking w words))) r (now (memory .entry)) s (now (memory .entry)) ⌝ }
 {
-    match get_word(map, at, r, pages, memory) {
+    match read_word(pages, memory, r.wmap, map, at, r.a, r.b) {
         Got::Value(w) => completed(apply(taking, w, words, r)),
         Got::Ends(t) => stop_by(t, r),
     }
@@ -161,7 +161,7 @@ pub(crate) fn step_and_skip(
 ) -> Stepped
     ensures { λ s. ⌜ Performs (now (pages .entry)) (wayAct Way.StepAndSkip r at words) r (now (memory .entry)) s (now (memory .exit)) ⌝ }
 {
-    match get_word(Map::Execute, at, r, pages, memory) {
+    match read_word(pages, memory, r.wmap, Map::Execute, at, r.a, r.b) {
         Got::Value(w) => {
             let stepped = increment(w).word;
             let to = skipping(r.p, words, stepped == 0);
@@ -181,7 +181,7 @@ pub(crate) fn load_double(
 ) -> Stepped
     ensures { λ s. ⌜ Performs (now (pages .entry)) (wayAct Way.LoadDouble r at words) r (now (memory .entry)) s (now (memory .entry)) ⌝ }
 {
-    match get_word(Map::Execute, at, r, pages, memory) {
+    match read_word(pages, memory, r.wmap, Map::Execute, at, r.a, r.b) {
         Got::Value(v) => load_second(v, past(at, 1), words, r, pages, memory),
         Got::Ends(t) => stop_by(t, r),
     }
@@ -197,7 +197,7 @@ fn load_second(
 ) -> Stepped
     ensures { λ s. ⌜ Performs (now (pages .entry)) (load Map.Execute second (λ w. fin (λ t. ahead words (withB (withA t v) w)))) r (now (memory .entry)) s (now (memory .entry)) ⌝ }
 {
-    match get_word(Map::Execute, second, r, pages, memory) {
+    match read_word(pages, memory, r.wmap, Map::Execute, second, r.a, r.b) {
         Got::Value(w) => {
             let first = set_register(Register::A, r, v);
             completed(go_ahead(words, set_register(Register::B, first, w)))
@@ -207,11 +207,6 @@ fn load_second(
 }
 
 // Whether a word can be stored at a place, or what ends the step.
-enum Tested {
-    Sound,
-    Ends(Trouble),
-}
-
 fn test_place(place: Place) -> Tested
     ensures { λ t. ⌜ t ≡ testedPlace place ⌝ }
 {
@@ -219,8 +214,7 @@ fn test_place(place: Place) -> Tested
         Place::A => Tested::Sound,
         Place::B => Tested::Sound,
         Place::Memory(_) => Tested::Sound,
-        Place::Closed => Tested::Ends(Trouble::Violation),
-        Place::Absent(_) => Tested::Ends(Trouble::Absent),
+        Place::Ends(t) => Tested::Ends(t),
     }
 }
 
@@ -232,8 +226,7 @@ fn test_places(first: Place, second: Place) -> Tested
         Place::A => test_place(second),
         Place::B => test_place(second),
         Place::Memory(_) => test_place(second),
-        Place::Closed => Tested::Ends(Trouble::Violation),
-        Place::Absent(_) => Tested::Ends(Trouble::Absent),
+        Place::Ends(t) => Tested::Ends(t),
     }
 }
 
@@ -249,8 +242,7 @@ fn store_at(place: Place, value: u16, s: Registers, memory: &mut [u16]) -> Regis
             memory[i] = value;
             s
         }
-        Place::Closed => s,
-        Place::Absent(_) => s,
+        Place::Ends(_) => s,
     }
 }
 

@@ -16,7 +16,7 @@ use lib.Seq.{drop-cons}
 use borrow.Author.Tests.{eqb-true, le-leb, leb-true}
 use Rattle.word.specs.Words.{weight}
 use Rattle.acts.specs.Replies.{number}
-use Rattle.acts.specs.Acts.{Result, done, violated, refused, answer, left}
+use Rattle.acts.specs.Acts.{Result, done, violated, refused, badCall, answer, left}
 use Rattle.machine.specs.Step.{stepped}
 use Rattle.acts.specs.declared.record.Registers.{Registers}
 use Rattle.host.specs.declared.record.Taken.{Taken}
@@ -84,7 +84,8 @@ module _ (w pages m : List ℕ) where
       → (wordsOf (answer r x .registers) ≡ w) × (left m x ≡ m)
   of-result r e (done s n) h = absurd (omega arith)
   of-result r e violated h = absurd (omega arith)
-  of-result r e (refused reply) h = (e, refl)
+  of-result r e (refused refusal) h = (e, refl)
+  of-result r e badCall h = (e, refl)
 
   pub refusal-kept : 2 ≤ stepCall w pages m .reply → (stepCall w pages m .words ≡ w) × (stepCall w pages m .memory ≡ m)
   unfolding stepCall

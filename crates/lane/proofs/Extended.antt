@@ -19,8 +19,7 @@ use Rattle.word.specs.Sums.{incremented, decremented, address}
 use Rattle.maps.specs.Access.{fetched}
 use Rattle.maps.specs.Chains.{chain}
 use Rattle.maps.specs.declared.pages.Map.{Map}
-use Rattle.maps.specs.declared.access.Fetched.{Fetched}
-use Rattle.maps.specs.declared.chains.Chain.{Chain}
+use Rattle.maps.specs.declared.troubles.Got.{Got}
 use Rattle.code.specs.Codes.{findWord, first, rows}
 use Rattle.code.specs.Instructions.{memoryReference, shiftRotate, alterSkip, inputOutput, places, ofKind, extended, reading}
 use Rattle.code.proofs.Fields.{is-extended}
@@ -48,7 +47,9 @@ use Rattle.effects.specs.declared.ways.Source.{Source}
 use Rattle.effects.specs.declared.ways.Addressing.the-variants.{Plain, Indexed}
 use Rattle.effects.specs.declared.ways.Way.{Way}
 use Rattle.effects.specs.declared.ways.Way.the-variants.{Take, Put, LoadDouble}
-use Rattle.rules.specs.Rules.{arithmeticWay, atOperand, extendedAct, rule}
+use Rattle.rules.specs.Rules.{arithmeticWay, extendedAction, act, rule}
+use Rattle.rules.specs.declared.actions.Operand.{Operand}
+use Rattle.rules.specs.declared.actions.Action.{Action}
 use Rattle.lane.specs.Lane.{Tried, Led}
 use Rattle.lane.specs.declared.went.Went.{Went}
 use Rattle.lane.specs.declared.went.Reach.{Reach}
@@ -186,7 +187,7 @@ same-places kind w r = rw (again w)
 ---- A code that has no address word
 
 module _ (r : Registers) where
-  told : {word k : ℕ} (x : Extended) → word ≡ k → reading k ≡ Instruction.Extended x → rule (reading word) r ≡ extendedAct x r
+  told : {word k : ℕ} (x : Extended) → word ≡ k → reading k ≡ Instruction.Extended x → rule (reading word) r ≡ act (extendedAction x) r
   told x e g = rw (e, g)
 
   pub copied-to : (g : Register) (i : Index) {word : ℕ} {s : Registers} → word ≡ transferWord Cax g i → s ≡ copiedToIndex g i r
@@ -217,33 +218,33 @@ module _ (r : Registers) where
 ---- A code that has an address word
 
 module _ (pages m : List ℕ) (r : Registers) where
-  followed : (from : ℕ) {to : ℕ} (k : ℕ → Act) → chain pages m (r .wmap) from (r .a) (r .b) ≡ Chain.Address to
+  followed : (from : ℕ) {to : ℕ} (k : ℕ → Act) → chain pages m (r .wmap) from (r .a) (r .b) ≡ Got.Value to
       → exec pages (follow from k) r m ≡ exec pages (k to) r m
   unfolding exec
   followed from k e = rw e
 
-  led : (from : ℕ) {to : ℕ} (g : Reach) → Led pages from r m g → g ≡ Reach.At to → chain pages m (r .wmap) from (r .a) (r .b) ≡ Chain.Address to
+  led : (from : ℕ) {to : ℕ} (g : Reach) → Led pages from r m g → g ≡ Reach.At to → chain pages m (r .wmap) from (r .a) (r .b) ≡ Got.Value to
   led from g h e = rw e at h
 
-  pub arrived : (way : Way) (from : ℕ) {to : ℕ} {f : Fetched} (g : Reach) → f ≡ fetched pages m (r .wmap) Map.Execute (address (r .p) 1) (r .a) (r .b)
-      → f ≡ Fetched.Word from → Led pages from r m g → g ≡ Reach.At to → exec pages (atOperand way r) r m ≡ exec pages (wayAct way r to 2) r m
+  pub arrived : (way : Way) (from : ℕ) {to : ℕ} {f : Got} (g : Reach) → f ≡ fetched pages m (r .wmap) Map.Execute (address (r .p) 1) (r .a) (r .b)
+      → f ≡ Got.Value from → Led pages from r m g → g ≡ Reach.At to → exec pages (act (Action.At way Operand.Next) r) r m ≡ exec pages (wayAct way r to 2) r m
   arrived way from g e w h k =
       loaded pages m r (address (r .p) 1) (λ v. follow v (λ at. wayAct way r at 2)) e w ∙ followed from (λ at. wayAct way r at 2) (led from g h k)
 
-  pub takes : (t : Taking) (at : ℕ) {v : ℕ} {f : Fetched} {s : Registers} → f ≡ fetched pages m (r .wmap) Map.Execute at (r .a) (r .b)
-      → f ≡ Fetched.Word v → s ≡ taken t v 2 r → exec pages (load Map.Execute at (λ w. fin (taken t w 2))) r m ≡ done s m
+  pub takes : (t : Taking) (at : ℕ) {v : ℕ} {f : Got} {s : Registers} → f ≡ fetched pages m (r .wmap) Map.Execute at (r .a) (r .b)
+      → f ≡ Got.Value v → s ≡ taken t v 2 r → exec pages (load Map.Execute at (λ w. fin (taken t w 2))) r m ≡ done s m
   takes t at {v} e g h = loaded pages m r at (λ w. fin (taken t w 2)) e g ∙ finished pages m r (taken t v 2) m h
 
-  pub takes-both : (at : ℕ) {v w : ℕ} {f g : Fetched} {s : Registers} → f ≡ fetched pages m (r .wmap) Map.Execute at (r .a) (r .b)
-      → f ≡ Fetched.Word v → g ≡ fetched pages m (r .wmap) Map.Execute (address at 1) (r .a) (r .b) → g ≡ Fetched.Word w
+  pub takes-both : (at : ℕ) {v w : ℕ} {f g : Got} {s : Registers} → f ≡ fetched pages m (r .wmap) Map.Execute at (r .a) (r .b)
+      → f ≡ Got.Value v → g ≡ fetched pages m (r .wmap) Map.Execute (address at 1) (r .a) (r .b) → g ≡ Got.Value w
       → s ≡ ahead 2 (withB (withA r v) w) → exec pages (wayAct LoadDouble r at 2) r m ≡ done s m
   takes-both at {v} {w} e g a b h =
       loaded pages m r at (λ v. load Map.Execute (address at 1) (λ w. fin (λ s. ahead 2 (withB (withA s v) w)))) e g
       ∙ loaded pages m r (address at 1) (λ w. fin (λ s. ahead 2 (withB (withA s v) w))) a b
       ∙ finished pages m r (λ s. ahead 2 (withB (withA s v) w)) m h
 
-  module _ (to : ℕ) (arrive : (way : Way) → exec pages (atOperand way r) r m ≡ exec pages (wayAct way r to 2) r m) (n : List ℕ) (w : Went) where
-    by : (x : Extended) (way : Way) {k word : ℕ} → reading k ≡ Instruction.Extended x → extendedAct x r ≡ atOperand way r → word ≡ k
+  module _ (to : ℕ) (arrive : (way : Way) → exec pages (act (Action.At way Operand.Next) r) r m ≡ exec pages (wayAct way r to 2) r m) (n : List ℕ) (w : Went) where
+    by : (x : Extended) (way : Way) {k word : ℕ} → reading k ≡ Instruction.Extended x → act (extendedAction x) r ≡ act (Action.At way Operand.Next) r → word ≡ k
         → Tried pages (wayAct way r to 2) r m w n → Tried pages (rule (reading word) r) r m w n
     by x way {word = word} g a e h =
         tried pages m r (rule (reading word) r) (wayAct way r to 2) n w (ap (λ (act : Act). exec pages act r m) (told r x e g ∙ a) ∙ arrive way) h

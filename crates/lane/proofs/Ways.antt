@@ -25,8 +25,7 @@ use Rattle.maps.proofs.Laws.{chain-direct, chain-once}
 use Rattle.maps.specs.declared.pages.Map.{Map}
 use Rattle.maps.specs.declared.pages.Purpose.{Purpose}
 use Rattle.maps.specs.declared.pages.Place.{Place}
-use Rattle.maps.specs.declared.access.Fetched.{Fetched}
-use Rattle.maps.specs.declared.chains.Chain.{Chain}
+use Rattle.maps.specs.declared.troubles.Got.{Got}
 use Rattle.code.proofs.Digits.{last-arm}
 use Rattle.code.specs.Instructions.{operationAt, memoryReference, reading}
 use Rattle.acts.specs.Record.{withP, ahead}
@@ -44,7 +43,7 @@ use Rattle.lane.specs.declared.went.Reach.{Reach}
 module _ (pages m : List ℕ) (r : Registers) where
   ---- One access
 
-  pub loaded : (at : ℕ) {v : ℕ} {f : Fetched} (k : ℕ → Act) → f ≡ fetched pages m (r .wmap) Map.Execute at (r .a) (r .b) → f ≡ Fetched.Word v
+  pub loaded : (at : ℕ) {v : ℕ} {f : Got} (k : ℕ → Act) → f ≡ fetched pages m (r .wmap) Map.Execute at (r .a) (r .b) → f ≡ Got.Value v
       → exec pages (load Map.Execute at k) r m ≡ exec pages (k v) r m
   unfolding exec
   loaded at k e g = rw (← e, g)
@@ -60,16 +59,16 @@ module _ (pages m : List ℕ) (r : Registers) where
 
   ---- A way that completes
 
-  pub taking : (t : Taking) (at : ℕ) {v : ℕ} {f : Fetched} {s : Registers} → f ≡ fetched pages m (r .wmap) Map.Execute at (r .a) (r .b)
-      → f ≡ Fetched.Word v → s ≡ taken t v 1 r → exec pages (load Map.Execute at (λ w. fin (taken t w 1))) r m ≡ done s m
+  pub taking : (t : Taking) (at : ℕ) {v : ℕ} {f : Got} {s : Registers} → f ≡ fetched pages m (r .wmap) Map.Execute at (r .a) (r .b)
+      → f ≡ Got.Value v → s ≡ taken t v 1 r → exec pages (load Map.Execute at (λ w. fin (taken t w 1))) r m ≡ done s m
   taking t at {v} e g h = loaded at (λ w. fin (taken t w 1)) e g ∙ finished (taken t v 1) m h
 
   pub putting : (at v q : ℕ) {i : ℕ} {p : Place} {s : Registers} → p ≡ place pages (r .wmap) Map.Execute Purpose.Store at (length m)
       → p ≡ Place.Memory i → s ≡ withP r q → exec pages (save Map.Execute at v (goOn q)) r m ≡ done s (set m i v)
   putting at v q {i} e g h = placed at v (goOn q) e g ∙ finished (λ s. withP s q) (set m i v) h
 
-  pub stepping : (at : ℕ) {v i q : ℕ} {f : Fetched} {p : Place} {s : Registers} → f ≡ fetched pages m (r .wmap) Map.Execute at (r .a) (r .b)
-      → f ≡ Fetched.Word v → p ≡ place pages (r .wmap) Map.Execute Purpose.Store at (length m) → p ≡ Place.Memory i
+  pub stepping : (at : ℕ) {v i q : ℕ} {f : Got} {p : Place} {s : Registers} → f ≡ fetched pages m (r .wmap) Map.Execute at (r .a) (r .b)
+      → f ≡ Got.Value v → p ≡ place pages (r .wmap) Map.Execute Purpose.Store at (length m) → p ≡ Place.Memory i
       → 1 + weight (eqb (incremented v .word) 0) ≡ q → s ≡ withP r (address (r .p) q)
       → exec pages (wayAct StepAndSkip r at 1) r m ≡ done s (set m i (incremented v .word))
   stepping at {v} e g a b z h =
@@ -79,7 +78,7 @@ module _ (pages m : List ℕ) (r : Registers) where
 
   ---- A step
 
-  pub step-at : {w : ℕ} {f : Fetched} → r .trap ≡ 0 → f ≡ fetched pages m (r .wmap) Map.Execute (r .p) (r .a) (r .b) → f ≡ Fetched.Word w
+  pub step-at : {w : ℕ} {f : Got} → r .trap ≡ 0 → f ≡ fetched pages m (r .wmap) Map.Execute (r .p) (r .a) (r .b) → f ≡ Got.Value w
       → exec pages (stepAct r) r m ≡ exec pages (rule (reading w) r) r m
   step-at t e g = rw (eq-eqb _ _ t) (loaded (r .p) (λ w. rule (reading w) r) e g)
 
@@ -101,17 +100,17 @@ near true offset p = omega arith
 near false offset p = omega arith
 
 module _ (pages m : List ℕ) (r : Registers) where
-  pub direct : (word : ℕ) → word < 0o100000 → chain pages m (r .wmap) word (r .a) (r .b) ≡ Chain.Address word
-  direct word l = chain-direct pages (r .wmap) m word (r .a) (r .b) (clear word l) ∙ ap Chain.Address (mod-eq-of-lt l)
+  pub direct : (word : ℕ) → word < 0o100000 → chain pages m (r .wmap) word (r .a) (r .b) ≡ Got.Value word
+  direct word l = chain-direct pages (r .wmap) m word (r .a) (r .b) (clear word l) ∙ ap Got.Value (mod-eq-of-lt l)
 
-  pub once : (word : ℕ) {next : ℕ} {f : Fetched} → 0o100000 ≤ word → word < 0o200000
-      → f ≡ fetched pages m (r .wmap) Map.Execute word (r .a) (r .b) → f ≡ Fetched.Word next → next < 0o100000
-      → chain pages m (r .wmap) word (r .a) (r .b) ≡ Chain.Address next
+  pub once : (word : ℕ) {next : ℕ} {f : Got} → 0o100000 ≤ word → word < 0o200000
+      → f ≡ fetched pages m (r .wmap) Map.Execute word (r .a) (r .b) → f ≡ Got.Value next → next < 0o100000
+      → chain pages m (r .wmap) word (r .a) (r .b) ≡ Got.Value next
   once word {next} l b e g h =
-      chain-once pages (r .wmap) m word next (r .a) (r .b) (asking word l b) (sym e ∙ g) (clear next h) ∙ ap Chain.Address (mod-eq-of-lt h)
+      chain-once pages (r .wmap) m word next (r .a) (r .b) (asking word l b) (sym e ∙ g) (clear next h) ∙ ap Got.Value (mod-eq-of-lt h)
 
   -- a memory reference, or a word of shift/rotate or alter/skip
-  pub carrying : {w at : ℕ} {f : Fetched} → r .trap ≡ 0 → f ≡ fetched pages m (r .wmap) Map.Execute (r .p) (r .a) (r .b) → f ≡ Fetched.Word w
+  pub carrying : {w at : ℕ} {f : Got} → r .trap ≡ 0 → f ≡ fetched pages m (r .wmap) Map.Execute (r .p) (r .a) (r .b) → f ≡ Got.Value w
       → (w / 0o4000 % 16 < 2 → w < 0o100000) → Led pages (memoryWord (bit 15 w) (bit 10 w) (w % 0o2000) (r .p)) r m (Reach.At at)
       → exec pages (stepAct r) r m ≡ exec pages (carried w at r) r m
   unfolding exec carried reading memoryReference
@@ -153,8 +152,8 @@ module _ (n at : ℕ) (r : Registers) where
       three false q = five (eqb n 5) refl (eqb-false n 3 q)
 
 -- a word that was read, and what the codes of one address word make of it
-pub finished-by : (pages m : List ℕ) (r : Registers) (t : Taking) (at : ℕ) {v : ℕ} {f : Fetched} (w : Went)
-    → f ≡ fetched pages m (r .wmap) Map.Execute at (r .a) (r .b) → f ≡ Fetched.Word v → Finishes t v r w
+pub finished-by : (pages m : List ℕ) (r : Registers) (t : Taking) (at : ℕ) {v : ℕ} {f : Got} (w : Went)
+    → f ≡ fetched pages m (r .wmap) Map.Execute at (r .a) (r .b) → f ≡ Got.Value v → Finishes t v r w
     → Tried pages (load Map.Execute at (λ x. fin (taken t x 2))) r m w m
 finished-by pages m r t at {v} (Went.Done s) e g h = loaded pages m r at (λ x. fin (taken t x 2)) e g ∙ finished pages m r (taken t v 2) m h
 finished-by pages m r t at Went.Not e g h = refl

@@ -10,13 +10,15 @@ use Rattle.acts.specs.declared.record.Registers.{Registers}
 use Rattle.effects.specs.Ways.{taken}
 use Rattle.effects.specs.declared.ways.Taking.{Taking}
 use Rattle.effects.specs.declared.ways.Way.the-variants.{Take, Put}
-use Rattle.rules.specs.Rules.{atOperand, rule}
+use Rattle.rules.specs.Rules.{act, rule}
+use Rattle.rules.specs.declared.actions.Operand.{Operand}
+use Rattle.rules.specs.declared.actions.Action.{Action}
 use Rattle.lane.specs.declared.codes.Asked.{Asked}
 use Rattle.lane.specs.declared.went.Went.{Went}
 
 abbrev pub Goes : ℕ → Asked → Type 0
-Goes word (Asked.Take taking addressing) = (r : Registers) → rule (reading word) r ≡ atOperand (Take taking Execute addressing) r
-Goes word (Asked.Put source addressing) = (r : Registers) → rule (reading word) r ≡ atOperand (Put source Execute addressing) r
+Goes word (Asked.Take taking addressing) = (r : Registers) → rule (reading word) r ≡ act (Action.At (Take taking Execute addressing) Operand.Next) r
+Goes word (Asked.Put source addressing) = (r : Registers) → rule (reading word) r ≡ act (Action.At (Put source Execute addressing) Operand.Next) r
 Goes word Asked.Nothing = Unit
 
 abbrev pub Finishes : Taking → ℕ → Registers → Went → Type 0

@@ -12,7 +12,7 @@ use lib.Dec.{eqb, leb}
 use Rattle.word.specs.Words.{bit}
 use Rattle.maps.specs.Chains.{chain}
 use Rattle.maps.specs.declared.pages.Map.the-variants.{Execute}
-use Rattle.maps.specs.declared.chains.Chain.{Chain}
+use Rattle.maps.specs.declared.troubles.Got.{Got}
 use Rattle.code.specs.Instructions.{operationAt, shiftRotate, alterSkip}
 use Rattle.code.specs.declared.codes.Register.the-variants.{A, B}
 use Rattle.acts.specs.Acts.{Act, done, exec}
@@ -33,7 +33,7 @@ Tried pages act r m Went.Not n = n ≡ m
 Tried pages act r m (Went.Done s) n = exec pages act r m ≡ done s n
 
 abbrev pub Led : List ℕ → ℕ → Registers → List ℕ → Reach → Type 0
-Led pages word r m (Reach.At to) = chain pages m (r .wmap) word (r .a) (r .b) ≡ Chain.Address to
+Led pages word r m (Reach.At to) = chain pages m (r .wmap) word (r .a) (r .b) ≡ Got.Value to
 Led pages word r m Reach.Not = Unit
 
 -- the memory references that read a word, by bits 14 to 11

@@ -19,12 +19,12 @@ use effects::ways::set_flags;
 use effects::ways::take_product;
 use effects::ways::take_quotient;
 use effects::ways::value_of;
-use maps::access::Fetched;
 use maps::access::read_word;
 use maps::pages::Map;
 use maps::pages::Place;
 use maps::pages::Purpose;
 use maps::pages::place_of;
+use maps::troubles::Got;
 use word::long::LongShift;
 use word::long::long_shift;
 use word::products::divide;
@@ -134,7 +134,7 @@ fn finish(taking: Taking, v: u16, r: Registers) -> Went
 fn take(taking: Taking, at: u16, r: Registers, pages: &[u16], memory: &[u16]) -> Went
     ensures { λ w. ⌜ Tried (now (pages .entry)) (load Map.Execute at (λ v. fin (taken taking v 2))) r (now (memory .entry)) w (now (memory .entry)) ⌝ }
 {
-    let Fetched::Word(v) = read_word(pages, memory, r.wmap, Map::Execute, at, r.a, r.b) else {
+    let Got::Value(v) = read_word(pages, memory, r.wmap, Map::Execute, at, r.a, r.b) else {
         return Went::Not;
     };
     finish(taking, v, r)
@@ -198,8 +198,7 @@ fn addressed(word: u16, r: Registers, pages: &[u16], memory: &mut [u16]) -> Went
     ensures { λ w. ⌜ Tried (now (pages .entry)) (rule (reading word) r) r (now (memory .entry)) w (now (memory .exit)) ⌝ }
 {
     let second = past(r.p, 1);
-    let Fetched::Word(from) = read_word(pages, memory, r.wmap, Map::Execute, second, r.a, r.b)
-    else {
+    let Got::Value(from) = read_word(pages, memory, r.wmap, Map::Execute, second, r.a, r.b) else {
         return Went::Not;
     };
     let Reach::At(to) = lead(from, r, pages, memory) else {

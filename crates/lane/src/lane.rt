@@ -10,9 +10,9 @@ use crate::references::take;
 use crate::went::Reach;
 use crate::went::Went;
 use acts::record::Registers;
-use maps::access::Fetched;
 use maps::access::read_word;
 use maps::pages::Map;
+use maps::troubles::Got;
 ghost use mathlib.Core.Path.{_≡_};
 ghost use Prim.Native.Nat.{_≤_};
 ghost use Rattle.rules.specs.Rules.{stepAct};
@@ -57,7 +57,7 @@ fn quick(r: Registers, pages: &[u16], memory: &mut [u16]) -> Went
     if r.trap != 0 {
         return Went::Not;
     }
-    let Fetched::Word(word) = read_word(pages, memory, r.wmap, Map::Execute, r.p, r.a, r.b) else {
+    let Got::Value(word) = read_word(pages, memory, r.wmap, Map::Execute, r.p, r.a, r.b) else {
         return Went::Not;
     };
     if word >= 0o100000 {

@@ -7,12 +7,12 @@ use acts::record::go_to;
 use acts::record::set_register;
 use code::codes::Register;
 use effects::ways::set_flags;
-use maps::access::Fetched;
 use maps::access::read_word;
 use maps::pages::Map;
 use maps::pages::Place;
 use maps::pages::Purpose;
 use maps::pages::place_of;
+use maps::troubles::Got;
 use rules::memory::memory_word;
 use word::sums::add;
 use word::sums::increment;
@@ -32,7 +32,7 @@ pub(crate) fn lead(word: u16, r: Registers, pages: &[u16], memory: &[u16]) -> Re
     if word < 0o100000 {
         return Reach::At(word);
     }
-    let Fetched::Word(next) = read_word(pages, memory, r.wmap, Map::Execute, word, r.a, r.b) else {
+    let Got::Value(next) = read_word(pages, memory, r.wmap, Map::Execute, word, r.a, r.b) else {
         return Reach::Not;
     };
     if next < 0o100000 {
@@ -91,7 +91,7 @@ fn taken(operation: u16, v: u16, r: Registers) -> Registers
 pub(crate) fn take(operation: u16, at: u16, r: Registers, pages: &[u16], memory: &[u16]) -> Went
     ensures { λ w. ⌜ Tried (now (pages .entry)) (load Map.Execute at (λ v. fin (takenBy (takingAt operation) v 1))) r (now (memory .entry)) w (now (memory .entry)) ⌝ }
 {
-    let Fetched::Word(v) = read_word(pages, memory, r.wmap, Map::Execute, at, r.a, r.b) else {
+    let Got::Value(v) = read_word(pages, memory, r.wmap, Map::Execute, at, r.a, r.b) else {
         return Went::Not;
     };
     Went::Done(taken(operation, v, r))
@@ -119,8 +119,7 @@ pub(crate) fn put(operation: u16, at: u16, r: Registers, pages: &[u16], memory: 
         }
         5 => s = go_to(at, r),
         7 => {
-            let Fetched::Word(v) = read_word(pages, memory, r.wmap, Map::Execute, at, r.a, r.b)
-            else {
+            let Got::Value(v) = read_word(pages, memory, r.wmap, Map::Execute, at, r.a, r.b) else {
                 return Went::Not;
             };
             let Place::Memory(i) = place_of(

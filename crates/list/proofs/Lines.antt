@@ -10,7 +10,8 @@ use lib.ListN.{length, length-append}
 use Rattle.acts.specs.Replies.{number}
 use Rattle.acts.specs.declared.replies.Ran.{Ran}
 use Rattle.acts.specs.declared.replies.Reply.{Reply}
-use Rattle.acts.specs.declared.replies.Reply.the-variants.{Completed, Violation, InputOutput, Endless, Absent, InRegisters, NotBuilt, TrapCell, BadCall}
+use Rattle.acts.specs.declared.replies.Reply.the-variants.{Completed, Violation, Refused, BadCall}
+use Rattle.acts.specs.declared.replies.Refusal.the-variants.{InputOutput, Endless, Absent, InRegisters, NotBuilt, TrapCell}
 use Rattle.list.specs.Text.{puts, holding}
 use Rattle.list.specs.Line.{header, lineOf}
 use Rattle.list.proofs.Texts.{puts-more, puts-holding, most-digits}
@@ -18,12 +19,12 @@ use Rattle.list.proofs.Texts.{puts-more, puts-holding, most-digits}
 one-digit : (r : Reply) → number r < 10
 one-digit Completed = omega arith
 one-digit Violation = omega arith
-one-digit InputOutput = omega arith
-one-digit Endless = omega arith
-one-digit Absent = omega arith
-one-digit InRegisters = omega arith
-one-digit NotBuilt = omega arith
-one-digit TrapCell = omega arith
+one-digit (Refused InputOutput) = omega arith
+one-digit (Refused Endless) = omega arith
+one-digit (Refused (Absent page)) = omega arith
+one-digit (Refused InRegisters) = omega arith
+one-digit (Refused NotBuilt) = omega arith
+one-digit (Refused TrapCell) = omega arith
 one-digit BadCall = omega arith
 
 room : (s : Ran) → s .count < 2 ^ 32 → length (header ++ lineOf s) ≤ 80

@@ -11,11 +11,10 @@ use lib.Dec.{eqb}
 use lib.ListN.{length}
 use Rattle.acts.specs.Record.{valid}
 use Rattle.acts.specs.Replies.{number}
-use Rattle.acts.specs.Acts.{refused, exec, answer, left}
+use Rattle.acts.specs.Acts.{badCall, exec, answer, left}
 use Rattle.rules.specs.Rules.{stepAct}
 use Rattle.machine.specs.Step.{wholePages, goodCall, stepped}
 use Rattle.acts.specs.declared.record.Registers.{Registers}
-use Rattle.acts.specs.declared.replies.Reply.{Reply}
 use Rattle.code.proofs.Truth.{never}
 use Rattle.acts.proofs.Keeping.{left-length}
 use Rattle.rules.proofs.Valid.{step-sound, step-valid}
@@ -24,7 +23,7 @@ pub stepped-length : (pages : List ℕ) (r : Registers) (m : List ℕ) → lengt
 unfolding stepped
 stepped-length pages r m = go (goodCall (length pages) (length m) r)
   where
-    go : (b : Bool) → length (left m (cond b (exec pages (stepAct r) r m) (refused Reply.BadCall))) ≡ length m
+    go : (b : Bool) → length (left m (cond b (exec pages (stepAct r) r m) badCall)) ≡ length m
     go true = left-length pages (stepAct r) r m
     go false = refl
 
@@ -52,7 +51,7 @@ unfolding stepped
 step-stays pages r m = go (goodCall (length pages) (length m) r) refl
   where
     go : (b : Bool) → goodCall (length pages) (length m) r ≡ b
-        → eqb (number (answer r (cond b (exec pages (stepAct r) r m) (refused Reply.BadCall)) .reply)) 0 ≡ true
-        → answer r (cond b (exec pages (stepAct r) r m) (refused Reply.BadCall)) .registers .wmap ≡ r .wmap
+        → eqb (number (answer r (cond b (exec pages (stepAct r) r m) badCall) .reply)) 0 ≡ true
+        → answer r (cond b (exec pages (stepAct r) r m) badCall) .registers .wmap ≡ r .wmap
     go true e = step-sound pages r m (good-valid (length pages) (length m) r e) .1
     go false e = λ q. refl

@@ -24,6 +24,7 @@ use Rattle.lane.specs.Lane.{Rolls, none, one-more as more-by-one}
 use Rattle.machine.specs.Turns.{plus, Turned}
 use Rattle.machine.specs.Step.{goodCall, stepped, Leaves, ending, counting, after, running, ran, Goes, Steps}
 use Rattle.acts.specs.declared.record.Registers.{Registers}
+use Rattle.acts.specs.declared.replies.Refusal.{Refusal}
 use Rattle.acts.specs.declared.replies.Reply.{Reply}
 use Rattle.acts.specs.declared.replies.Stepped.{Stepped}
 use Rattle.acts.specs.declared.replies.Ran.{Ran}
@@ -132,12 +133,12 @@ after-one : (reply : Reply) (s : Registers) (later : List ℕ)
     → after (record { reply = reply; registers = s }) later (ending Reply.Completed 0 s later) ≡ ending reply (weight (leb (number reply) 1)) s later
 after-one Reply.Completed s later = refl
 after-one Reply.Violation s later = refl
-after-one Reply.InputOutput s later = refl
-after-one Reply.Endless s later = refl
-after-one Reply.Absent s later = refl
-after-one Reply.InRegisters s later = refl
-after-one Reply.NotBuilt s later = refl
-after-one Reply.TrapCell s later = refl
+after-one (Reply.Refused Refusal.InputOutput) s later = refl
+after-one (Reply.Refused Refusal.Endless) s later = refl
+after-one (Reply.Refused (Refusal.Absent page)) s later = refl
+after-one (Reply.Refused Refusal.InRegisters) s later = refl
+after-one (Reply.Refused Refusal.NotBuilt) s later = refl
+after-one (Reply.Refused Refusal.TrapCell) s later = refl
 after-one Reply.BadCall s later = refl
 
 running-one : (pages : List ℕ) (r : Registers) (m : List ℕ)

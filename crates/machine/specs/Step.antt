@@ -14,7 +14,7 @@ use lib.ListN.{length}
 use Rattle.word.specs.Words.{weight}
 use Rattle.acts.specs.Replies.{number}
 use Rattle.acts.specs.Record.{valid}
-use Rattle.acts.specs.Acts.{Result, refused, exec, answer, left}
+use Rattle.acts.specs.Acts.{Result, badCall, exec, answer, left}
 use Rattle.rules.specs.Rules.{stepAct}
 use Rattle.acts.specs.declared.record.Registers.{Registers}
 use Rattle.acts.specs.declared.replies.Reply.{Reply}
@@ -31,7 +31,7 @@ abbrev pub goodCall : ℕ → ℕ → Registers → Bool
 goodCall registers words r = eqb registers 1024 && wholePages words && valid r
 
 unfoldable pub stepped : List ℕ → Registers → List ℕ → Result
-stepped pages r m = cond (goodCall (length pages) (length m) r) (exec pages (stepAct r) r m) (refused Reply.BadCall)
+stepped pages r m = cond (goodCall (length pages) (length m) r) (exec pages (stepAct r) r m) badCall
 
 pub record Steps (pages : List ℕ) (r : Registers) (m : List ℕ) (s : Stepped) (later n : List ℕ) : Type 0 where
   pub outcome : s ≡ answer r (stepped pages r m)

@@ -3,7 +3,6 @@ use crate::run::go;
 use acts::record::Registers;
 use acts::replies::Reply;
 use acts::replies::Stepped;
-use acts::replies::refuse;
 ghost use mathlib.Core.Path.{_≡_};
 ghost use Rattle.acts.specs.Record.{valid};
 ghost use Rattle.machine.specs.Step.{goodCall, Steps};
@@ -33,7 +32,14 @@ pub fn step(r: Registers, pages: &mut [u16], memory: &mut [u16]) -> Stepped
     if is_good_call(pages.len(), memory.len(), r) {
         let t = go(1, r, pages, memory);
         let reply = t.reply;
-        return refuse(reply, t.registers);
+        let s = t.registers;
+        return Stepped {
+            reply: reply,
+            registers: s,
+        };
     }
-    refuse(Reply::BadCall, r)
+    Stepped {
+        reply: Reply::BadCall,
+        registers: r,
+    }
 }

@@ -15,15 +15,16 @@ use lib.Dec.{eqb, ltb}
 use lib.ListN.{length, getD, set}
 use borrow.Author.Tests.{ltb-true, ltb-false, lt-ltb, le-ltb}
 use Rattle.word.specs.Words.{bit}
-use Rattle.maps.specs.Pages.{physicalPage, protecting, pageRegister, registerOf, indexIn, isRegister, closedTo, isOpen, presence, spot, ifPresent, place, Reached, numberPlace, numberPresence}
-use Rattle.maps.specs.Access.{held, numberFetched}
+use Rattle.maps.specs.Pages.{physicalPage, protecting, pageRegister, registerOf, indexIn, isRegister, closedTo, isOpen, presence, spot, ifPresent, place, Reached, numberPlace}
+use Rattle.maps.specs.Troubles.{numberTrouble, numberGot, numberTested}
+use Rattle.maps.specs.Access.{held}
 use Rattle.maps.specs.Chains.{goingOn, chased}
 use Rattle.maps.specs.declared.pages.Map.{Map}
 use Rattle.maps.specs.declared.pages.Purpose.{Purpose}
 use Rattle.maps.specs.declared.pages.Place.{Place}
-use Rattle.maps.specs.declared.pages.Presence.{Presence}
-use Rattle.maps.specs.declared.access.Fetched.{Fetched}
-use Rattle.maps.specs.declared.chains.Chain.{Chain}
+use Rattle.maps.specs.declared.troubles.Trouble.{Trouble}
+use Rattle.maps.specs.declared.troubles.Tested.{Tested}
+use Rattle.maps.specs.declared.troubles.Got.{Got}
 
 pub never : {X : Type 0} → _≡_ {A = ℕ} 0 1 → X
 never e = absurd (omega arith)
@@ -35,8 +36,8 @@ pub record InMemory (pages : List ℕ) (wmap : ℕ) (map : Map) (purpose : Purpo
 
 shape : (register first shut inside : Bool) (page i index : ℕ)
     → cond (register || not shut)
-    (ifPresent (cond (register || inside) Presence.Present (Presence.Absent page))
-    (cond register (cond first Place.A Place.B) (Place.Memory i))) Place.Closed
+    (ifPresent (cond (register || inside) Tested.Sound (Tested.Ends (Trouble.Absent page)))
+    (cond register (cond first Place.A Place.B) (Place.Memory i))) (Place.Ends Trouble.Closed)
     ≡ Place.Memory index
     → (shut ≡ false) × (inside ≡ true) × (i ≡ index)
 shape true true shut inside page i index e = never (cc)
@@ -84,48 +85,50 @@ both-open false true true stores = refl
 both-open false true false stores = refl
 
 -- by the three ways that the tests can go
-pub number-of : (open? : Bool) (present : Presence) (reached : Place) → Reached reached
-    → numberPlace (cond open? (ifPresent present reached) Place.Closed) ≡ cond open? (numberPresence present) 1
+pub number-of : (open? : Bool) (present : Tested) (reached : Place) → Reached reached
+    → numberPlace (cond open? (ifPresent present reached) (Place.Ends Trouble.Closed)) ≡ cond open? (numberTested present) 1
 number-of false present reached r = refl
-number-of true (Presence.Absent page) reached r = refl
-number-of true Presence.Present Place.A Reached.at-a = refl
-number-of true Presence.Present Place.B Reached.at-b = refl
-number-of true Presence.Present (Place.Memory index) Reached.at-word = refl
+number-of true (Tested.Ends trouble) reached r = refl
+number-of true Tested.Sound Place.A Reached.at-a = refl
+number-of true Tested.Sound Place.B Reached.at-b = refl
+number-of true Tested.Sound (Place.Memory index) Reached.at-word = refl
 
-pub closed-by : (open? : Bool) (present : Presence) (reached : Place) → Reached reached
-    → cond open? (ifPresent present reached) Place.Closed ≡ Place.Closed → open? ≡ false
-closed-by false present reached r e = refl
-closed-by true (Presence.Absent page) reached r e = never (cc)
-closed-by true Presence.Present Place.A Reached.at-a e = never (cc)
-closed-by true Presence.Present Place.B Reached.at-b e = never (cc)
-closed-by true Presence.Present (Place.Memory index) Reached.at-word e = never (cc)
+pub closed-by : (open? inside : Bool) (page : ℕ) (reached : Place) → Reached reached
+    → cond open? (ifPresent (cond inside Tested.Sound (Tested.Ends (Trouble.Absent page))) reached) (Place.Ends Trouble.Closed)
+    ≡ Place.Ends Trouble.Closed
+    → open? ≡ false
+closed-by false inside page reached r e = refl
+closed-by true false page reached r e = never (cc)
+closed-by true true page Place.A Reached.at-a e = never (cc)
+closed-by true true page Place.B Reached.at-b e = never (cc)
+closed-by true true page (Place.Memory index) Reached.at-word e = never (cc)
 
-pub reached-by : (open? : Bool) (present : Presence) (reached p : Place)
-    → cond open? (ifPresent present reached) Place.Closed ≡ p → Reached p
-    → (open? ≡ true) × (present ≡ Presence.Present)
+pub reached-by : (open? : Bool) (present : Tested) (reached p : Place)
+    → cond open? (ifPresent present reached) (Place.Ends Trouble.Closed) ≡ p → Reached p
+    → (open? ≡ true) × (present ≡ Tested.Sound)
 reached-by false present reached Place.A e Reached.at-a = never (cc)
 reached-by false present reached Place.B e Reached.at-b = never (cc)
 reached-by false present reached (Place.Memory index) e Reached.at-word = never (cc)
-reached-by true Presence.Present reached p e r = (refl, refl)
-reached-by true (Presence.Absent page) reached Place.A e Reached.at-a = never (cc)
-reached-by true (Presence.Absent page) reached Place.B e Reached.at-b = never (cc)
-reached-by true (Presence.Absent page) reached (Place.Memory index) e Reached.at-word = never (cc)
+reached-by true Tested.Sound reached p e r = (refl, refl)
+reached-by true (Tested.Ends trouble) reached Place.A e Reached.at-a = never (cc)
+reached-by true (Tested.Ends trouble) reached Place.B e Reached.at-b = never (cc)
+reached-by true (Tested.Ends trouble) reached (Place.Memory index) e Reached.at-word = never (cc)
 
-pub absent-by : (open? : Bool) (present : Presence) (reached : Place) (page : ℕ) → Reached reached
-    → cond open? (ifPresent present reached) Place.Closed ≡ Place.Absent page → present ≡ Presence.Absent page
+pub absent-by : (open? : Bool) (present : Tested) (reached : Place) (page : ℕ) → Reached reached
+    → cond open? (ifPresent present reached) (Place.Ends Trouble.Closed) ≡ Place.Ends (Trouble.Absent page) → present ≡ Tested.Ends (Trouble.Absent page)
 absent-by false present reached page r e = never (cc)
-absent-by true (Presence.Absent other) reached page r e = cc
-absent-by true Presence.Present Place.A page Reached.at-a e = never (cc)
-absent-by true Presence.Present Place.B page Reached.at-b e = never (cc)
-absent-by true Presence.Present (Place.Memory index) page Reached.at-word e = never (cc)
+absent-by true (Tested.Ends trouble) reached page r e = cc
+absent-by true Tested.Sound Place.A page Reached.at-a e = never (cc)
+absent-by true Tested.Sound Place.B page Reached.at-b e = never (cc)
+absent-by true Tested.Sound (Place.Memory index) page Reached.at-word e = never (cc)
 
-absent-page : (inside : Bool) (page other : ℕ) → cond inside Presence.Present (Presence.Absent page) ≡ Presence.Absent other
+absent-page : (inside : Bool) (page other : ℕ) → cond inside Tested.Sound (Tested.Ends (Trouble.Absent page)) ≡ Tested.Ends (Trouble.Absent other)
     → (inside ≡ false) × (page ≡ other)
 absent-page true page other e = never (cc)
 absent-page false page other e = (refl, cc)
 
 pub beyond : (pages : List ℕ) (wmap : ℕ) (map : Map) (address size page : ℕ)
-    → presence pages wmap map address size ≡ Presence.Absent page
+    → presence pages wmap map address size ≡ Tested.Ends (Trouble.Absent page)
     → (physicalPage (registerOf pages wmap map address) ≡ page) × (size ≤ indexIn (registerOf pages wmap map address) address)
 unfolding presence
 beyond pages wmap map address size page e =
@@ -157,44 +160,33 @@ pub held-same : (p : Place) (m n : List ℕ) (a b : ℕ)
     → held p m a b ≡ held p n a b
 held-same Place.A m n a b h = refl
 held-same Place.B m n a b h = refl
-held-same (Place.Memory index) m n a b h = ap Fetched.Word (h index refl)
-held-same Place.Closed m n a b h = refl
-held-same (Place.Absent page) m n a b h = refl
+held-same (Place.Memory index) m n a b h = ap Got.Value (h index refl)
+held-same (Place.Ends trouble) m n a b h = refl
 
-pub held-word : (p : Place) (memory : List ℕ) (a b : ℕ) → Reached p → (word : ℕ) × (held p memory a b ≡ Fetched.Word word)
+pub held-word : (p : Place) (memory : List ℕ) (a b : ℕ) → Reached p → (word : ℕ) × (held p memory a b ≡ Got.Value word)
 held-word Place.A memory a b Reached.at-a = (a, refl)
 held-word Place.B memory a b Reached.at-b = (b, refl)
 held-word (Place.Memory index) memory a b Reached.at-word = (getD memory index 0, refl)
 
-pub held-closed : (p : Place) (memory : List ℕ) (a b : ℕ) → held p memory a b ≡ Fetched.Closed → p ≡ Place.Closed
-held-closed Place.A memory a b e = never (cc)
-held-closed Place.B memory a b e = never (cc)
-held-closed (Place.Memory index) memory a b e = never (cc)
-held-closed Place.Closed memory a b e = refl
-held-closed (Place.Absent page) memory a b e = never (cc)
+pub held-ends : (p : Place) (memory : List ℕ) (a b : ℕ) (trouble : Trouble) → held p memory a b ≡ Got.Ends trouble → p ≡ Place.Ends trouble
+held-ends Place.A memory a b trouble e = never (cc)
+held-ends Place.B memory a b trouble e = never (cc)
+held-ends (Place.Memory index) memory a b trouble e = never (cc)
+held-ends (Place.Ends other) memory a b trouble e = cc
 
-pub held-absent : (p : Place) (memory : List ℕ) (a b page : ℕ) → held p memory a b ≡ Fetched.Absent page → p ≡ Place.Absent page
-held-absent Place.A memory a b page e = never (cc)
-held-absent Place.B memory a b page e = never (cc)
-held-absent (Place.Memory index) memory a b page e = never (cc)
-held-absent Place.Closed memory a b page e = never (cc)
-held-absent (Place.Absent other) memory a b page e = cc
-
-pub held-number : (p : Place) (memory : List ℕ) (a b : ℕ) → numberFetched (held p memory a b) ≡ numberPlace p
+pub held-number : (p : Place) (memory : List ℕ) (a b : ℕ) → numberGot (held p memory a b) ≡ numberPlace p
 held-number Place.A memory a b = refl
 held-number Place.B memory a b = refl
 held-number (Place.Memory index) memory a b = refl
-held-number Place.Closed memory a b = refl
-held-number (Place.Absent page) memory a b = refl
+held-number (Place.Ends trouble) memory a b = refl
 
 pub held-range : (p : Place) (memory : List ℕ) (a b word : ℕ)
     → ((index : ℕ) → getD memory index 0 < 65536) → a < 65536 → b < 65536
-    → held p memory a b ≡ Fetched.Word word → word < 65536
+    → held p memory a b ≡ Got.Value word → word < 65536
 held-range Place.A memory a b word h k l e = let q : a ≡ word = cc in omega arith
 held-range Place.B memory a b word h k l e = let q : b ≡ word = cc in omega arith
 held-range (Place.Memory index) memory a b word h k l e = let q : getD memory index 0 ≡ word = cc in omega (arith, h index)
-held-range Place.Closed memory a b word h k l e = never (cc)
-held-range (Place.Absent page) memory a b word h k l e = never (cc)
+held-range (Place.Ends trouble) memory a b word h k l e = never (cc)
 
 pub set-cases : (m : List ℕ) (i value index : ℕ)
     → (getD (set m i value) index 0 ≡ getD m index 0) ⊎ ((i ≡ index) × (getD (set m i value) index 0 ≡ value))
@@ -220,13 +212,13 @@ set-either (x ∷ xs) (y ∷ ys) zero value (suc index) e = inl (refl, refl)
 set-either (x ∷ xs) (y ∷ ys) (suc i) value zero e = inl (refl, refl)
 set-either (x ∷ xs) (y ∷ ys) (suc i) value (suc index) e = set-either xs ys i value index (omega arith)
 
-module _ (read : ℕ → Fetched) where
-  pub chased-ends : (left word : ℕ) → bit 15 word ≡ false → chased read left word ≡ Chain.Address (word % 0o100000)
+module _ (read : ℕ → Got) where
+  pub chased-ends : (left word : ℕ) → bit 15 word ≡ false → chased read left word ≡ Got.Value (word % 0o100000)
   unfolding chased
   chased-ends zero word e = rw e
   chased-ends (suc left) word e = rw (e, chased)
 
-  pub chased-out : (word : ℕ) → bit 15 word ≡ true → chased read 0 word ≡ Chain.Endless
+  pub chased-out : (word : ℕ) → bit 15 word ≡ true → chased read 0 word ≡ Got.Ends Trouble.Endless
   unfolding chased
   chased-out word e = rw e
 
@@ -235,30 +227,28 @@ module _ (read : ℕ → Fetched) where
   chased-on left word e = rw (e, chased)
 
   -- a cell that names itself
-  pub chased-itself : (left word : ℕ) → bit 15 word ≡ true → read word ≡ Fetched.Word word → chased read left word ≡ Chain.Endless
+  pub chased-itself : (left word : ℕ) → bit 15 word ≡ true → read word ≡ Got.Value word → chased read left word ≡ Got.Ends Trouble.Endless
   chased-itself zero word e f = chased-out word e
   chased-itself (suc left) word e f = chased-on left word e ∙ rw f (chased-itself left word e f)
 
 -- what holds of each way to end holds of a chain
-module _ (read : ℕ → Fetched) (P : Chain → Type 0) (endless : P Chain.Endless)
-    (address : (word : ℕ) → P (Chain.Address (word % 0o100000)))
-    (closed : (word : ℕ) → read word ≡ Fetched.Closed → P Chain.Closed)
-    (absent : (word page : ℕ) → read word ≡ Fetched.Absent page → P (Chain.Absent page)) where
-  on : (word : ℕ) (f : Fetched) (from : ℕ → Chain) → ((next : ℕ) → P (from next)) → read word ≡ f → P (goingOn f from)
-  on word (Fetched.Word next) from h e = h next
-  on word Fetched.Closed from h e = closed word e
-  on word (Fetched.Absent page) from h e = absent word page e
+module _ (read : ℕ → Got) (P : Got → Type 0) (endless : P (Got.Ends Trouble.Endless))
+    (address : (word : ℕ) → P (Got.Value (word % 0o100000)))
+    (ends : (word : ℕ) (trouble : Trouble) → read word ≡ Got.Ends trouble → P (Got.Ends trouble)) where
+  on : (word : ℕ) (f : Got) (from : ℕ → Got) → ((next : ℕ) → P (from next)) → read word ≡ f → P (goingOn f from)
+  on word (Got.Value next) from h e = h next
+  on word (Got.Ends trouble) from h e = ends word trouble e
 
   pub chased-all : (left word : ℕ) → P (chased read left word)
   unfolding chased
   chased-all zero word = out (bit 15 word)
     where
-      out : (asks : Bool) → P (cond asks Chain.Endless (Chain.Address (word % 0o100000)))
+      out : (asks : Bool) → P (cond asks (Got.Ends Trouble.Endless) (Got.Value (word % 0o100000)))
       out true = endless
       out false = address word
   chased-all (suc left) word = step (bit 15 word) (on word (read word) (chased read left) (chased-all left) refl)
     where
       step : (asks : Bool) → P (goingOn (read word) (chased read left))
-          → P (elim asks [ true ↦ goingOn (read word) (chased read left) | false ↦ Chain.Address (word % 0o100000) ])
+          → P (elim asks [ true ↦ goingOn (read word) (chased read left) | false ↦ Got.Value (word % 0o100000) ])
       step true h = h
       step false h = address word

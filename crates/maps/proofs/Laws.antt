@@ -13,59 +13,52 @@ use Prim.Native.Nat.{ℕ, _<_, _≤_, _+_, _-_, _*_, _/_, _%_}
 use native.Mathlib.Omega.{arith}
 use mathlib.Core.Path.{_≡_, refl, sym, _∙_, ap, fun-ext}
 use mathlib.Core.Logic.{_⊎_, inl, inr, ⊎-elim}
-use mathlib.Core.Bool.{Bool, true, false, cond, _&&_}
+use mathlib.Core.Bool.{Bool, true, false, cond, _&&_, _||_}
 use mathlib.Core.List.{List}
-use lib.Dec.{eqb}
+use lib.Dec.{eqb, ltb}
 use lib.ListN.{length, getD, length-set}
 use lib.Seq.{getD-set-same}
 use Rattle.word.specs.Words.{bit}
-use Rattle.maps.specs.Pages.{readProtected, protecting, physicalPage, pageRegister, registerOf, indexIn, isRegister, isOpen, presence, spot, place, Reached, numberPlace, numberPresence}
-use Rattle.maps.specs.Access.{held, fetched, put, numberFetched}
-use Rattle.maps.specs.Chains.{chased, executeWord, chain, numberChain}
+use Rattle.maps.specs.Pages.{readProtected, protecting, physicalPage, pageRegister, registerOf, indexIn, isRegister, isOpen, presence, spot, ifPresent, place, Reached, numberPlace}
+use Rattle.maps.specs.Troubles.{numberTrouble, numberGot, numberTested}
+use Rattle.maps.specs.Access.{held, fetched, put}
+use Rattle.maps.specs.Chains.{chased, executeWord, chain}
 use Rattle.maps.specs.Open.{OpenTo, OpenToRead, OpenToStore, Agree}
-use Rattle.maps.proofs.Behind.{never, in-memory, or-true, or-left, or-right, and-left, and-right, both-open, number-of, closed-by, reached-by, absent-by, whole, beyond, fifteen-register, fifteen-page, held-same, held-word, held-closed, held-absent, held-number, held-range, set-cases, set-either, chased-ends, chased-on, chased-itself, chased-all}
+use Rattle.maps.proofs.Behind.{never, in-memory, or-true, or-left, or-right, and-left, and-right, both-open, number-of, closed-by, reached-by, absent-by, whole, beyond, fifteen-register, fifteen-page, held-same, held-word, held-ends, held-number, held-range, set-cases, set-either, chased-ends, chased-on, chased-itself, chased-all}
 use Rattle.maps.specs.declared.pages.Map.{Map}
 use Rattle.maps.specs.declared.pages.Purpose.{Purpose}
 use Rattle.maps.specs.declared.pages.Place.{Place}
-use Rattle.maps.specs.declared.pages.Presence.{Presence}
-use Rattle.maps.specs.declared.access.Fetched.{Fetched}
-use Rattle.maps.specs.declared.chains.Chain.{Chain}
+use Rattle.maps.specs.declared.troubles.Trouble.{Trouble}
+use Rattle.maps.specs.declared.troubles.Tested.{Tested}
+use Rattle.maps.specs.declared.troubles.Got.{Got}
 
 ---- The paper's numbers: each tells the case, and the case holds what else the answer says
 
-pub place-told : (p : Place)
-    → (numberPlace p ≡ 0 → Reached p)
-    × (numberPlace p ≡ 1 → p ≡ Place.Closed)
-    × (numberPlace p ≡ 4 → (page : ℕ) × (p ≡ Place.Absent page))
-place-told Place.A = ((λ e. Reached.at-a), (λ e. absurd (omega arith)), (λ e. absurd (omega arith)))
-place-told Place.B = ((λ e. Reached.at-b), (λ e. absurd (omega arith)), (λ e. absurd (omega arith)))
-place-told (Place.Memory index) = ((λ e. Reached.at-word), (λ e. absurd (omega arith)), (λ e. absurd (omega arith)))
-place-told Place.Closed = ((λ e. absurd (omega arith)), (λ e. refl), (λ e. absurd (omega arith)))
-place-told (Place.Absent page) = ((λ e. absurd (omega arith)), (λ e. absurd (omega arith)), (λ e. (page, refl)))
+pub trouble-told : (t : Trouble)
+    → (numberTrouble t ≡ 0 → ⊥)
+    × (numberTrouble t ≡ 1 → t ≡ Trouble.Closed)
+    × (numberTrouble t ≡ 3 → t ≡ Trouble.Endless)
+    × (numberTrouble t ≡ 4 → (page : ℕ) × (t ≡ Trouble.Absent page))
+    × (numberTrouble t ≡ 5 → t ≡ Trouble.InRegisters)
+trouble-told Trouble.Closed = ((λ e. absurd (omega arith)), (λ e. refl), (λ e. absurd (omega arith)), (λ e. absurd (omega arith)), (λ e. absurd (omega arith)))
+trouble-told Trouble.Endless = ((λ e. absurd (omega arith)), (λ e. absurd (omega arith)), (λ e. refl), (λ e. absurd (omega arith)), (λ e. absurd (omega arith)))
+trouble-told (Trouble.Absent page) = ((λ e. absurd (omega arith)), (λ e. absurd (omega arith)), (λ e. absurd (omega arith)), (λ e. (page, refl)), (λ e. absurd (omega arith)))
+trouble-told Trouble.InRegisters = ((λ e. absurd (omega arith)), (λ e. absurd (omega arith)), (λ e. absurd (omega arith)), (λ e. absurd (omega arith)), (λ e. refl))
 
-pub presence-told : (p : Presence)
-    → (numberPresence p ≡ 0 → p ≡ Presence.Present)
-    × (numberPresence p ≡ 4 → (page : ℕ) × (p ≡ Presence.Absent page))
-presence-told Presence.Present = ((λ e. refl), (λ e. absurd (omega arith)))
-presence-told (Presence.Absent page) = ((λ e. absurd (omega arith)), (λ e. (page, refl)))
+-- 0 tells that nothing stands in the way, any other number which trouble does
+pub place-told : (p : Place) → (numberPlace p ≡ 0 → Reached p) × ((t : Trouble) → p ≡ Place.Ends t → numberPlace p ≡ numberTrouble t)
+place-told Place.A = ((λ e. Reached.at-a), (λ t e. ap numberPlace e))
+place-told Place.B = ((λ e. Reached.at-b), (λ t e. ap numberPlace e))
+place-told (Place.Memory index) = ((λ e. Reached.at-word), (λ t e. ap numberPlace e))
+place-told (Place.Ends trouble) = ((λ e. absurd (trouble-told trouble .0 e)), (λ t e. ap numberPlace e))
 
-pub fetched-told : (f : Fetched)
-    → (numberFetched f ≡ 0 → (word : ℕ) × (f ≡ Fetched.Word word))
-    × (numberFetched f ≡ 1 → f ≡ Fetched.Closed)
-    × (numberFetched f ≡ 4 → (page : ℕ) × (f ≡ Fetched.Absent page))
-fetched-told (Fetched.Word word) = ((λ e. (word, refl)), (λ e. absurd (omega arith)), (λ e. absurd (omega arith)))
-fetched-told Fetched.Closed = ((λ e. absurd (omega arith)), (λ e. refl), (λ e. absurd (omega arith)))
-fetched-told (Fetched.Absent page) = ((λ e. absurd (omega arith)), (λ e. absurd (omega arith)), (λ e. (page, refl)))
+pub got-told : (g : Got) → numberGot g ≡ 0 → (value : ℕ) × (g ≡ Got.Value value)
+got-told (Got.Value value) e = (value, refl)
+got-told (Got.Ends trouble) e = absurd (trouble-told trouble .0 e)
 
-pub chain-told : (c : Chain)
-    → (numberChain c ≡ 0 → (address : ℕ) × (c ≡ Chain.Address address))
-    × (numberChain c ≡ 1 → c ≡ Chain.Closed)
-    × (numberChain c ≡ 3 → c ≡ Chain.Endless)
-    × (numberChain c ≡ 4 → (page : ℕ) × (c ≡ Chain.Absent page))
-chain-told (Chain.Address address) = ((λ e. (address, refl)), (λ e. absurd (omega arith)), (λ e. absurd (omega arith)), (λ e. absurd (omega arith)))
-chain-told Chain.Endless = ((λ e. absurd (omega arith)), (λ e. absurd (omega arith)), (λ e. refl), (λ e. absurd (omega arith)))
-chain-told Chain.Closed = ((λ e. absurd (omega arith)), (λ e. refl), (λ e. absurd (omega arith)), (λ e. absurd (omega arith)))
-chain-told (Chain.Absent page) = ((λ e. absurd (omega arith)), (λ e. absurd (omega arith)), (λ e. absurd (omega arith)), (λ e. (page, refl)))
+pub tested-told : (t : Tested) → numberTested t ≡ 0 → t ≡ Tested.Sound
+tested-told Tested.Sound e = refl
+tested-told (Tested.Ends trouble) e = absurd (trouble-told trouble .0 e)
 
 ---- What a store leaves, at any place
 
@@ -73,8 +66,7 @@ pub put-length : (p : Place) (memory : List ℕ) (value : ℕ) → length (put p
 put-length Place.A memory value = refl
 put-length Place.B memory value = refl
 put-length (Place.Memory index) memory value = simp length-set
-put-length Place.Closed memory value = refl
-put-length (Place.Absent page) memory value = refl
+put-length (Place.Ends trouble) memory value = refl
 
 -- a word after a store is the word before it, or the value, at the place alone
 pub put-cases : (p : Place) (memory : List ℕ) (value index : ℕ)
@@ -83,8 +75,7 @@ pub put-cases : (p : Place) (memory : List ℕ) (value index : ℕ)
 put-cases Place.A memory value index = inl refl
 put-cases Place.B memory value index = inl refl
 put-cases (Place.Memory i) memory value index = ⊎-elim inl (λ w. inr (ap Place.Memory (w .0), w .1)) (set-cases memory i value index)
-put-cases Place.Closed memory value index = inl refl
-put-cases (Place.Absent page) memory value index = inl refl
+put-cases (Place.Ends trouble) memory value index = inl refl
 
 pub put-here : (memory : List ℕ) (value index : ℕ) → index < length memory → getD (put (Place.Memory index) memory value) index 0 ≡ value
 put-here memory value index l = getD-set-same memory index value 0 l
@@ -100,8 +91,7 @@ pub put-either : (p : Place) (m n : List ℕ) (value index : ℕ) → length m �
 put-either Place.A m n value index e = inl (refl, refl)
 put-either Place.B m n value index e = inl (refl, refl)
 put-either (Place.Memory i) m n value index e = set-either m n i value index e
-put-either Place.Closed m n value index e = inl (refl, refl)
-put-either (Place.Absent page) m n value index e = inl (refl, refl)
+put-either (Place.Ends trouble) m n value index e = inl (refl, refl)
 
 -- memory as lent holds 16-bit words, and does after a store
 abbrev pub Words : List ℕ → Type 0
@@ -114,23 +104,29 @@ put-words p memory value h l index =
 module _ (pages : List ℕ) (wmap : ℕ) where
   ---- The place of an access: it depends on memory only through `size`, its length
 
+  pub place-by-tests : (map : Map) (purpose : Purpose) (address size : ℕ)
+      → place pages wmap map purpose address size
+      ≡ cond (isOpen pages wmap map purpose address) (ifPresent (presence pages wmap map address size) (spot pages wmap map address)) (Place.Ends Trouble.Closed)
+  unfolding place
+  place-by-tests map purpose address size = refl
+
   pub place-closed : (map : Map) (purpose : Purpose) (address size : ℕ)
       → isOpen pages wmap map purpose address ≡ false
-      → place pages wmap map purpose address size ≡ Place.Closed
+      → place pages wmap map purpose address size ≡ Place.Ends Trouble.Closed
   unfolding place
   place-closed map purpose address size e = rw e
 
   pub place-absent : (map : Map) (purpose : Purpose) (address size page : ℕ)
       → isOpen pages wmap map purpose address ≡ true
-      → presence pages wmap map address size ≡ Presence.Absent page
-      → place pages wmap map purpose address size ≡ Place.Absent page
+      → presence pages wmap map address size ≡ Tested.Ends (Trouble.Absent page)
+      → place pages wmap map purpose address size ≡ Place.Ends (Trouble.Absent page)
   unfolding place
   place-absent map purpose address size page e f = rw (e, f)
 
   -- after the tests of an access succeed, the access succeeds
   pub place-reached : (map : Map) (purpose : Purpose) (address size : ℕ)
       → isOpen pages wmap map purpose address ≡ true
-      → presence pages wmap map address size ≡ Presence.Present
+      → presence pages wmap map address size ≡ Tested.Sound
       → place pages wmap map purpose address size ≡ spot pages wmap map address
   unfolding place
   place-reached map purpose address size e f = rw (e, f)
@@ -157,28 +153,30 @@ module _ (pages : List ℕ) (wmap : ℕ) where
   -- the paper's number goes by the two tests, protection first
   pub place-number : (map : Map) (purpose : Purpose) (address size : ℕ)
       → numberPlace (place pages wmap map purpose address size)
-      ≡ cond (isOpen pages wmap map purpose address) (numberPresence (presence pages wmap map address size)) 1
+      ≡ cond (isOpen pages wmap map purpose address) (numberTested (presence pages wmap map address size)) 1
   unfolding place
   place-number map purpose address size =
       number-of (isOpen pages wmap map purpose address) (presence pages wmap map address size) (spot pages wmap map address) (spot-reached map address)
 
   pub closed-place : (map : Map) (purpose : Purpose) (address size : ℕ)
-      → place pages wmap map purpose address size ≡ Place.Closed
+      → place pages wmap map purpose address size ≡ Place.Ends Trouble.Closed
       → isOpen pages wmap map purpose address ≡ false
-  unfolding place
+  unfolding place presence
   closed-place map purpose address size e =
-      closed-by (isOpen pages wmap map purpose address) (presence pages wmap map address size) (spot pages wmap map address) (spot-reached map address) e
+      let register = registerOf pages wmap map address in
+      closed-by (isOpen pages wmap map purpose address) (isRegister map address || ltb (indexIn register address) size) (physicalPage register)
+      (spot pages wmap map address) (spot-reached map address) e
 
   pub absent-place : (map : Map) (purpose : Purpose) (address size page : ℕ)
-      → place pages wmap map purpose address size ≡ Place.Absent page
-      → presence pages wmap map address size ≡ Presence.Absent page
+      → place pages wmap map purpose address size ≡ Place.Ends (Trouble.Absent page)
+      → presence pages wmap map address size ≡ Tested.Ends (Trouble.Absent page)
   unfolding place
   absent-place map purpose address size page e =
       absent-by (isOpen pages wmap map purpose address) (presence pages wmap map address size) (spot pages wmap map address) page (spot-reached map address) e
 
   pub reached-place : (map : Map) (purpose : Purpose) (address size : ℕ)
       → Reached (place pages wmap map purpose address size)
-      → (isOpen pages wmap map purpose address ≡ true) × (presence pages wmap map address size ≡ Presence.Present)
+      → (isOpen pages wmap map purpose address ≡ true) × (presence pages wmap map address size ≡ Tested.Sound)
   unfolding place
   reached-place map purpose address size r =
       reached-by (isOpen pages wmap map purpose address) (presence pages wmap map address size) (spot pages wmap map address) _ refl r
@@ -256,7 +254,7 @@ module _ (pages : List ℕ) (wmap : ℕ) where
   fetched-fifteen memory map address a b = rw (place-fifteen map Purpose.Read address (length memory))
 
   pub fetched-number : (memory : List ℕ) (map : Map) (address a b : ℕ)
-      → numberFetched (fetched pages memory wmap map address a b)
+      → numberGot (fetched pages memory wmap map address a b)
       ≡ numberPlace (place pages wmap map Purpose.Read address (length memory))
   unfolding fetched
   fetched-number memory map address a b = held-number (place pages wmap map Purpose.Read address (length memory)) memory a b
@@ -264,8 +262,8 @@ module _ (pages : List ℕ) (wmap : ℕ) where
   -- after the tests of a read succeed, it answers a word
   pub fetched-reached : (memory : List ℕ) (map : Map) (address a b : ℕ)
       → isOpen pages wmap map Purpose.Read address ≡ true
-      → presence pages wmap map address (length memory) ≡ Presence.Present
-      → (word : ℕ) × (fetched pages memory wmap map address a b ≡ Fetched.Word word)
+      → presence pages wmap map address (length memory) ≡ Tested.Sound
+      → (word : ℕ) × (fetched pages memory wmap map address a b ≡ Got.Value word)
   unfolding fetched
   fetched-reached memory map address a b e f =
       rw (place-reached map Purpose.Read address (length memory) e f)
@@ -281,10 +279,10 @@ module _ (pages : List ℕ) (wmap : ℕ) where
       ∙ ap (λ (size : ℕ). held (place pages wmap map Purpose.Read address size) n a b) e
 
   pub fetched-unprotected : (memory : List ℕ) (map : Map) (address a b : ℕ) → protecting wmap ≡ false
-      → fetched pages memory wmap map address a b ≡ Fetched.Closed → ⊥
+      → fetched pages memory wmap map address a b ≡ Got.Ends Trouble.Closed → ⊥
   unfolding fetched
   fetched-unprotected memory map address a b off e =
-      let q = closed-place map Purpose.Read address (length memory) (held-closed (place pages wmap map Purpose.Read address (length memory)) memory a b e) in
+      let q = closed-place map Purpose.Read address (length memory) (held-ends (place pages wmap map Purpose.Read address (length memory)) memory a b Trouble.Closed e) in
       let r = open-unprotected map Purpose.Read address off in
       never (cc)
 
@@ -293,11 +291,11 @@ module _ (pages : List ℕ) (wmap : ℕ) where
       → place pages wmap map purpose address (length memory) ≡ Place.Memory index
       → place pages wmap map′ Purpose.Read address′ (length memory) ≡ Place.Memory index
       → fetched pages (put (place pages wmap map purpose address (length memory)) memory value) wmap map′ address′ a b
-      ≡ Fetched.Word value
+      ≡ Got.Value value
   unfolding fetched
   store-seen memory map map′ purpose address address′ value a b index e f =
       rw (e, length-set, f)
-      (ap Fetched.Word (getD-set-same memory index value 0 (place-below map′ Purpose.Read address′ (length memory) index f)))
+      (ap Got.Value (getD-set-same memory index value 0 (place-below map′ Purpose.Read address′ (length memory) index f)))
 
   -- and two that have different places do not
   pub store-unseen : (memory : List ℕ) (map map′ : Map) (purpose : Purpose) (address address′ value a b : ℕ)
@@ -316,7 +314,7 @@ module _ (pages : List ℕ) (wmap : ℕ) where
       → chain pages m wmap word a b ≡ chain pages n wmap word a b
   unfolding chain
   chain-same m n word a b e h =
-      ap (λ (read : ℕ → Fetched). chased read 32768 word) (fun-ext (λ address. fetched-same m n Map.Execute address a b e (h address)))
+      ap (λ (read : ℕ → Got). chased read 32768 word) (fun-ext (λ address. fetched-same m n Map.Execute address a b e (h address)))
 
   ---- Pages left open
 
@@ -374,45 +372,44 @@ module _ (pages : List ℕ) (wmap : ℕ) where
 
   -- an address word whose bit 15 is clear is the address
   pub chain-direct : (memory : List ℕ) (word a b : ℕ) → bit 15 word ≡ false
-      → chain pages memory wmap word a b ≡ Chain.Address (word % 0o100000)
+      → chain pages memory wmap word a b ≡ Got.Value (word % 0o100000)
   unfolding chain
   chain-direct memory word a b e = chased-ends _ 32768 word e
 
   -- a chain of one level
   pub chain-once : (memory : List ℕ) (word next a b : ℕ) → bit 15 word ≡ true
-      → fetched pages memory wmap Map.Execute word a b ≡ Fetched.Word next → bit 15 next ≡ false
-      → chain pages memory wmap word a b ≡ Chain.Address (next % 0o100000)
+      → fetched pages memory wmap Map.Execute word a b ≡ Got.Value next → bit 15 next ≡ false
+      → chain pages memory wmap word a b ≡ Got.Value (next % 0o100000)
   unfolding chain
   chain-once memory word next a b e f g =
       chased-on (executeWord pages memory wmap a b) 32767 word e ∙ rw f (chased-ends (executeWord pages memory wmap a b) 32767 next g)
 
   -- a cell that names itself is endless
   pub chain-itself : (memory : List ℕ) (word a b : ℕ) → bit 15 word ≡ true
-      → fetched pages memory wmap Map.Execute word a b ≡ Fetched.Word word
-      → chain pages memory wmap word a b ≡ Chain.Endless
+      → fetched pages memory wmap Map.Execute word a b ≡ Got.Value word
+      → chain pages memory wmap word a b ≡ Got.Ends Trouble.Endless
   unfolding chain
   chain-itself memory word a b e f = chased-itself (executeWord pages memory wmap a b) 32768 word e f
 
   -- the paper's number: the chain ends (0) or is endless (3), or it is that of a word read in the Execute map
   pub chain-number : (memory : List ℕ) (word a b : ℕ)
-      → (numberChain (chain pages memory wmap word a b) ≡ 0)
-      ⊎ ((numberChain (chain pages memory wmap word a b) ≡ 3)
-      ⊎ ((address : ℕ) × (numberChain (chain pages memory wmap word a b) ≡ numberFetched (fetched pages memory wmap Map.Execute address a b))))
+      → (numberGot (chain pages memory wmap word a b) ≡ 0)
+      ⊎ ((numberGot (chain pages memory wmap word a b) ≡ 3)
+      ⊎ ((address : ℕ) × (numberGot (chain pages memory wmap word a b) ≡ numberGot (fetched pages memory wmap Map.Execute address a b))))
   unfolding chain
   chain-number memory word a b =
       chased-all (executeWord pages memory wmap a b)
-      (λ c. (numberChain c ≡ 0) ⊎ ((numberChain c ≡ 3) ⊎ ((address : ℕ) × (numberChain c ≡ numberFetched (fetched pages memory wmap Map.Execute address a b)))))
+      (λ c. (numberGot c ≡ 0) ⊎ ((numberGot c ≡ 3) ⊎ ((address : ℕ) × (numberGot c ≡ numberGot (fetched pages memory wmap Map.Execute address a b)))))
       (inr (inl refl)) (λ w. inl refl)
-      (λ w e. inr (inr (w, rw e))) (λ w page e. inr (inr (w, rw e)))
+      (λ w trouble e. inr (inr (w, rw e)))
       32768 word
 
   pub chain-unprotected : (memory : List ℕ) (word a b : ℕ) → protecting wmap ≡ false
-      → chain pages memory wmap word a b ≡ Chain.Closed → ⊥
+      → chain pages memory wmap word a b ≡ Got.Ends Trouble.Closed → ⊥
   unfolding chain
-  chain-unprotected memory word a b off = chased-all (executeWord pages memory wmap a b) (λ c. c ≡ Chain.Closed → ⊥)
+  chain-unprotected memory word a b off = chased-all (executeWord pages memory wmap a b) (λ c. c ≡ Got.Ends Trouble.Closed → ⊥)
       (λ e. never (cc)) (λ w e. never (cc))
-      (λ w e _. fetched-unprotected memory Map.Execute w a b off e)
-      (λ w page e f. never (cc)) 32768 word
+      (λ w trouble e f. fetched-unprotected memory Map.Execute w a b off (e ∙ f)) 32768 word
 
   ---- Whole pages: a range is tested page by page
 
@@ -436,40 +433,39 @@ module _ (pages : List ℕ) (wmap : ℕ) where
   ---- Ranges
 
   pub fetched-word : (memory : List ℕ) (map : Map) (address a b word : ℕ) → Words memory → a < 65536 → b < 65536
-      → fetched pages memory wmap map address a b ≡ Fetched.Word word → word < 65536
+      → fetched pages memory wmap map address a b ≡ Got.Value word → word < 65536
   unfolding fetched
   fetched-word memory map address a b word h k l e = held-range (place pages wmap map Purpose.Read address (length memory)) memory a b word h k l e
 
-  pub presence-page : (map : Map) (address size page : ℕ) → presence pages wmap map address size ≡ Presence.Absent page → page < 16384
+  pub presence-page : (map : Map) (address size page : ℕ) → presence pages wmap map address size ≡ Tested.Ends (Trouble.Absent page) → page < 16384
   presence-page map address size page e = omega (arith, beyond pages wmap map address size page e)
 
   pub place-page : (map : Map) (purpose : Purpose) (address size page : ℕ)
-      → place pages wmap map purpose address size ≡ Place.Absent page → page < 16384
+      → place pages wmap map purpose address size ≡ Place.Ends (Trouble.Absent page) → page < 16384
   place-page map purpose address size page e = presence-page map address size page (absent-place map purpose address size page e)
 
   pub fetched-page : (memory : List ℕ) (map : Map) (address a b page : ℕ)
-      → fetched pages memory wmap map address a b ≡ Fetched.Absent page → page < 16384
+      → fetched pages memory wmap map address a b ≡ Got.Ends (Trouble.Absent page) → page < 16384
   unfolding fetched
   fetched-page memory map address a b page e =
       place-page map Purpose.Read address (length memory) page
-      (held-absent (place pages wmap map Purpose.Read address (length memory)) memory a b page e)
+      (held-ends (place pages wmap map Purpose.Read address (length memory)) memory a b (Trouble.Absent page) e)
 
   -- an absent page lies beyond a memory of whole pages
   pub absent-beyond : (map : Map) (address size page : ℕ) → size % 1024 ≡ 0
-      → presence pages wmap map address size ≡ Presence.Absent page → size ≤ page * 1024
+      → presence pages wmap map address size ≡ Tested.Ends (Trouble.Absent page) → size ≤ page * 1024
   absent-beyond map address size page h e = omega (arith, beyond pages wmap map address size page e)
 
-  pub chain-address : (memory : List ℕ) (word a b address : ℕ) → chain pages memory wmap word a b ≡ Chain.Address address → address < 32768
+  pub chain-address : (memory : List ℕ) (word a b address : ℕ) → chain pages memory wmap word a b ≡ Got.Value address → address < 32768
   unfolding chain
   chain-address memory word a b address =
-      chased-all (executeWord pages memory wmap a b) (λ c. c ≡ Chain.Address address → address < 32768)
-      (λ e. never (cc)) (λ w e. let q : w % 0o100000 ≡ address = cc in omega arith) (λ w _ e. never (cc)) (λ w page _ e. never (cc))
+      chased-all (executeWord pages memory wmap a b) (λ c. c ≡ Got.Value address → address < 32768)
+      (λ e. never (cc)) (λ w e. let q : w % 0o100000 ≡ address = cc in omega arith) (λ w trouble _ e. never (cc))
       32768 word
 
-  pub chain-page : (memory : List ℕ) (word a b page : ℕ) → chain pages memory wmap word a b ≡ Chain.Absent page → page < 16384
+  pub chain-page : (memory : List ℕ) (word a b page : ℕ) → chain pages memory wmap word a b ≡ Got.Ends (Trouble.Absent page) → page < 16384
   unfolding chain
   chain-page memory word a b page =
-      chased-all (executeWord pages memory wmap a b) (λ c. c ≡ Chain.Absent page → page < 16384)
-      (λ e. never (cc)) (λ w e. never (cc)) (λ w _ e. never (cc))
-      (λ w other f e. let q : other ≡ page = cc in omega (arith, fetched-page memory Map.Execute w a b other f))
+      chased-all (executeWord pages memory wmap a b) (λ c. c ≡ Got.Ends (Trouble.Absent page) → page < 16384)
+      (λ e. never (cc)) (λ w e. never (cc)) (λ w trouble f e. fetched-page memory Map.Execute w a b page (f ∙ e))
       32768 word

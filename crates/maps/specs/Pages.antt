@@ -6,7 +6,7 @@
 --     isRegister                                       whether an address is A or B
 --     closedTo, isOpen, presence                       the two tests of an access
 --     spot, ifPresent, place, Reached                  where an access ends
---     numberPlace, numberPresence                      the paper's numbers
+--     numberPlace                                      the paper's number
 -- Page registers and memory are lists of any length, and every number is an address: nothing is asked of them. Not here:
 -- what a place holds (`Access`), and what the three current maps leave open as a whole (`Open`).
 -- Assumes nothing.
@@ -21,7 +21,9 @@ use Rattle.maps.specs.declared.pages.Map.the-variants.{Execute, Data1, D
 use Rattle.maps.specs.declared.pages.Purpose.{Purpose}
 use Rattle.maps.specs.declared.pages.Purpose.the-variants.{Read, Store, Both}
 use Rattle.maps.specs.declared.pages.Place.{Place}
-use Rattle.maps.specs.declared.pages.Presence.{Presence}
+use Rattle.maps.specs.Troubles.{numberTrouble}
+use Rattle.maps.specs.declared.troubles.Trouble.{Trouble}
+use Rattle.maps.specs.declared.troubles.Tested.{Tested}
 
 -- 01: "Page register: bits 0 to 13 physical page, bit 14 store-protected, bit 15 read-protected."
 abbrev pub physicalPage : ℕ → ℕ
@@ -81,11 +83,11 @@ isOpen pages wmap map purpose address =
     isRegister map address || not (protecting wmap && closedTo purpose (registerOf pages wmap map address))
 
 -- 01, reply 4: "a physical page beyond the lent memory is accessed". `length` is that of memory, in words.
-unfoldable pub presence : List ℕ → ℕ → Map → ℕ → ℕ → Presence
+unfoldable pub presence : List ℕ → ℕ → Map → ℕ → ℕ → Tested
 presence pages wmap map address length =
     cond (isRegister map address || ltb (indexIn (registerOf pages wmap map address) address) length)
-    Presence.Present
-    (Presence.Absent (physicalPage (registerOf pages wmap map address)))
+    Tested.Sound
+    (Tested.Ends (Trouble.Absent (physicalPage (registerOf pages wmap map address))))
 
 -- the register or the word of memory that an address names
 unfoldable pub spot : List ℕ → ℕ → Map → ℕ → Place
@@ -95,15 +97,15 @@ spot pages wmap map address =
     (Place.Memory (indexIn (registerOf pages wmap map address) address))
 
 -- 01: "Each single access tests protection (1) before presence (4)."
-abbrev pub ifPresent : Presence → Place → Place
-ifPresent Presence.Present reached = reached
-ifPresent (Presence.Absent page) reached = Place.Absent page
+abbrev pub ifPresent : Tested → Place → Place
+ifPresent Tested.Sound reached = reached
+ifPresent (Tested.Ends trouble) reached = Place.Ends trouble
 
 unfoldable pub place : List ℕ → ℕ → Map → Purpose → ℕ → ℕ → Place
 place pages wmap map purpose address length =
     cond (isOpen pages wmap map purpose address)
     (ifPresent (presence pages wmap map address length) (spot pages wmap map address))
-    Place.Closed
+    (Place.Ends Trouble.Closed)
 
 -- the places of an access that succeeds
 pub data Reached : Place → Type 0 where
@@ -111,14 +113,9 @@ pub data Reached : Place → Type 0 where
   at-b : Reached Place.B
   at-word : {index : ℕ} → Reached (Place.Memory index)
 
--- 01, What a step replies: 0 completed, 1 "a violation was met", 4 "a physical page beyond the lent memory is accessed"
+-- the paper's number
 abbrev pub numberPlace : Place → ℕ
 numberPlace Place.A = 0
 numberPlace Place.B = 0
 numberPlace (Place.Memory index) = 0
-numberPlace Place.Closed = 1
-numberPlace (Place.Absent page) = 4
-
-abbrev pub numberPresence : Presence → ℕ
-numberPresence Presence.Present = 0
-numberPresence (Presence.Absent page) = 4
+numberPlace (Place.Ends trouble) = numberTrouble trouble

@@ -7,12 +7,7 @@ use crate::pages::Map;
 use crate::pages::Place;
 use crate::pages::Purpose;
 use crate::pages::place_of;
-
-pub enum Fetched {
-    Word(u16),
-    Closed,
-    Absent(u16),
-}
+use crate::troubles::Got;
 
 // `a` and `b` are the words that A and B hold.
 pub fn read_word(
@@ -23,15 +18,14 @@ pub fn read_word(
     address: u16,
     a: u16,
     b: u16,
-) -> Fetched
+) -> Got
     ensures { λ r. ⌜ r ≡ fetched (now (pages .entry)) (now (memory .entry)) wmap map address a b ⌝ }
 {
     match place_of(pages, wmap, map, Purpose::Read, address, memory.len()) {
-        Place::A => Fetched::Word(a),
-        Place::B => Fetched::Word(b),
-        Place::Memory(index) => Fetched::Word(memory[index]),
-        Place::Closed => Fetched::Closed,
-        Place::Absent(page) => Fetched::Absent(page),
+        Place::A => Got::Value(a),
+        Place::B => Got::Value(b),
+        Place::Memory(index) => Got::Value(memory[index]),
+        Place::Ends(trouble) => Got::Ends(trouble),
     }
 }
 
@@ -61,7 +55,6 @@ pub fn store_word(
             set_word(memory, index, value);
             Place::Memory(index)
         }
-        Place::Closed => Place::Closed,
-        Place::Absent(page) => Place::Absent(page),
+        Place::Ends(trouble) => Place::Ends(trouble),
     }
 }

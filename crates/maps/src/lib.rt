@@ -5,3 +5,4 @@ pub mod access;
 pub mod bytes;
 pub mod chains;
 pub mod pages;
+pub mod troubles;

@@ -1,4 +1,6 @@
 // Where a logical address leads: a register, a word of memory, a closed page or an absent one.
+use crate::troubles::Tested;
+use crate::troubles::Trouble;
 ghost use mathlib.Core.Path.{_≡_};
 ghost use mathlib.Core.Bool.{_&&_};
 ghost use Rattle.maps.specs.Pages.{mapNumber, registerOf, protecting, closedTo, indexIn};
@@ -18,18 +20,12 @@ pub enum Purpose {
     Both,
 }
 
-// Where an access ends: A, B, an index into memory, or trouble with the physical page.
+// Where an access ends: A, B, an index into memory, or trouble.
 pub enum Place {
     A,
     B,
     Memory(usize),
-    Closed,
-    Absent(u16),
-}
-
-pub enum Presence {
-    Present,
-    Absent(u16),
+    Ends(Trouble),
 }
 
 fn map_number(wmap: u16, map: Map) -> u16
@@ -97,17 +93,17 @@ pub fn is_open(pages: &[u16], wmap: u16, map: Map, purpose: Purpose, address: u1
 }
 
 // The test of presence alone, for a memory of `length` words.
-pub fn presence_of(pages: &[u16], wmap: u16, map: Map, address: u16, length: usize) -> Presence
+pub fn presence_of(pages: &[u16], wmap: u16, map: Map, address: u16, length: usize) -> Tested
     ensures { λ r. ⌜ r ≡ presence (now (pages .entry)) wmap map address length ⌝ }
 {
     if is_register(map, address) {
-        return Presence::Present;
+        return Tested::Sound;
     }
     let register = page_register(pages, wmap, map, address);
     if index_of(register, address) < length {
-        return Presence::Present;
+        return Tested::Sound;
     }
-    Presence::Absent(register % 16384)
+    Tested::Ends(Trouble::Absent(register % 16384))
 }
 
 // Where an access ends: protection is tested before presence.
@@ -131,10 +127,10 @@ pub fn place_of(
     let closed = is_closed(wmap, purpose, register);
     let index = index_of(register, address);
     if closed {
-        return Place::Closed;
+        return Place::Ends(Trouble::Closed);
     }
     if index < length {
         return Place::Memory(index);
     }
-    Place::Absent(register % 16384)
+    Place::Ends(Trouble::Absent(register % 16384))
 }

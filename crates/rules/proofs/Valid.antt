@@ -1,17 +1,15 @@
--- The program of a step keeps the record valid; where a step replies 0 it keeps WMAP; and it refuses with 2 to 7 only.
+-- The program of a step keeps the record valid, and where a step replies 0 it keeps WMAP.
 --     moved-valid .. interrupted-valid            records that stay valid
---     Refusal                                     the replies that a rule may refuse with
---     moved-sound .. step-act-sound               the program of each rule, and of a step, keeps validity and WMAP
+--     moved-sound .. step-act-sound               the program of each action, and of a step, keeps validity and WMAP
 --     After, step-sound                           so of the registers after a step
 --     step-valid                                  which are valid
---     Fair, step-fair                             and of what it refuses with
 -- A good call is the machine's. Assumes nothing.
 use Prim.Native.Nat.{ℕ, zero, suc, _<_, _+_, _*_, _/_, _%_}
 use native.Mathlib.Omega.{arith}
 use mathlib.Core.Path.{_≡_, refl, sym}
 use mathlib.Core.Bool.{Bool, true, false, cond, not, _&&_, _||_}
 use mathlib.Core.List.{List}
-use lib.Dec.{T, eqb, ltb, leb}
+use lib.Dec.{eqb, ltb}
 use borrow.Author.Tests.{lt-ltb, ne-eqb}
 use Rattle.word.specs.Words.{weight, everyBitSet}
 use Rattle.word.specs.Sums.{sum, incremented, decremented, address}
@@ -33,34 +31,26 @@ use Rattle.effects.specs.Ways.{flagged, quotient, taken, wayAct}
 use Rattle.effects.specs.Group.{shiftRotated, alterEnded, alterSkipped, longRotated, copiedToIndex, copiedFromIndex, exchanged, indexStepped, picked, panelAct, isHalt, ioAct}
 use Rattle.strings.specs.Strings.{wordAt, along, valueOf, purposeOf, saving, touches, opensAll, presentAll, moving, moved, orderOf, onOrder, loadElement, comparing}
 use Rattle.strings.specs.Strings.{byteLoaded, byteStored, noneToDo, counted, moveAct, compareAct, masked, maskAct}
-use Rattle.rules.specs.Rules.{memoryWay, memoryWord, arithmeticWay, crossWay, atOperand, transferAct, indexingAct, bytesAct, wordsAct, extendedAct}
-use Rattle.rules.specs.Rules.{rule, trapWay, trapRule, stepAct}
+use Rattle.rules.specs.Rules.{reached, wordsOf, action, act, rule, holds, trapRule, stepAct}
 use Rattle.acts.specs.declared.record.Registers.{Registers}
-use Rattle.acts.specs.declared.replies.Reply.{Reply}
+use Rattle.acts.specs.declared.replies.Refusal.{Refusal}
 use Rattle.code.specs.declared.codes.Register.{Register}
 use Rattle.code.specs.declared.codes.Register.the-variants.{A, B}
 use Rattle.code.specs.declared.codes.Index.{Index}
 use Rattle.code.specs.declared.codes.Index.the-variants.{X, Y}
-use Rattle.code.specs.declared.codes.Extended.{Extended}
-use Rattle.code.specs.declared.codes.Transfer.{Transfer}
-use Rattle.code.specs.declared.codes.Transfer.the-variants.{Sax, Cax, Lax, Cxa, Xax}
-use Rattle.code.specs.declared.codes.Indexing.{Indexing}
-use Rattle.code.specs.declared.codes.Indexing.the-variants.{Stx, Ldx, Adx, Isx, Dsx}
-use Rattle.code.specs.declared.codes.Bytes.{Bytes}
-use Rattle.code.specs.declared.codes.Bytes.the-variants.{Lbt, Sbt, Mbt, Cbt}
-use Rattle.code.specs.declared.codes.Words.{Words}
-use Rattle.code.specs.declared.codes.Words.the-variants.{Cmw, Mvw}
 use Rattle.code.specs.declared.instructions.ShiftRotate.{ShiftRotate}
 use Rattle.code.specs.declared.instructions.AlterSkip.{AlterSkip}
 use Rattle.code.specs.declared.instructions.IoOperation.{IoOperation}
 use Rattle.code.specs.declared.instructions.IoOperation.the-variants.{Hlt, Flag, Sfc, Sfs, Mia, Lia, Ota, Control}
-use Rattle.code.specs.declared.instructions.Instruction.{Instruction}
+use Rattle.code.specs.declared.instructions.Operation.{Operation}
 use Rattle.effects.specs.declared.ways.Taking.{Taking}
 use Rattle.effects.specs.declared.ways.Taking.the-variants.{And, Xor, Ior, Add, Compare, Load, Multiply, Divide, LoadIndex, AddIndex}
-use Rattle.effects.specs.declared.ways.Source.{Source}
-use Rattle.effects.specs.declared.ways.Addressing.the-variants.{Plain, Indexed}
 use Rattle.effects.specs.declared.ways.Way.{Way}
 use Rattle.effects.specs.declared.ways.Way.the-variants.{Take, Put, LoadDouble, StoreDouble, StepAndSkip, Jump, JumpSaving}
+use Rattle.rules.specs.declared.actions.Operand.{Operand}
+use Rattle.rules.specs.declared.actions.Operand.the-variants.{Made, Next}
+use Rattle.rules.specs.declared.actions.Action.{Action}
+use Rattle.rules.specs.declared.actions.Action.the-variants.{At, CopyToIndex, CopyFromIndex, Exchange, CountUp, CountDown, LoadByte, StoreByte, Move, Mask}
 use Rattle.strings.specs.declared.strings.Element.{Element}
 use Rattle.strings.specs.declared.strings.Element.the-variants.{Word, Byte}
 use Rattle.code.specs.declared.codes.Bits.{Bits}
@@ -113,10 +103,6 @@ unprotected w = ne-eqb ((data2Map w * 1024 + executeMap w * 32) / 0o100000 % 2) 
 pub interrupted-valid : (r : Registers) → Valid r → Valid (interrupted r)
 interrupted-valid r h = rw (parts r h .one, unprotected (r .wmap))
 
--- 01, What a step replies: "all as given" is said of 2 to 7, and of 8, which no rule gives
-abbrev pub Refusal : Reply → Type 0
-Refusal reply = T (leb 2 (number reply) && leb (number reply) 7)
-
 -- Records that stay valid and keep WMAP.
 module _ (wmap : ℕ) where
   abbrev pub Sound : Registers → Type 0
@@ -151,7 +137,7 @@ module _ (wmap : ℕ) where
   -- Programs that keep both.
 
   abbrev KeepsSound : Act → Type 0
-  KeepsSound = Keeps Sound Refusal
+  KeepsSound = Keeps Sound
 
   either : (b : Bool) (x y : Act) → KeepsSound x → KeepsSound y → KeepsSound (cond b x y)
   either true x y p q = p
@@ -223,17 +209,17 @@ module _ (wmap : ℕ) where
   panel-sound Sfs bit11 bit9 = λ s. ahead-sound (1 + weight (s .o)) s
   panel-sound Mia bit11 bit9 = tt
   panel-sound Lia bit11 bit9 =
-      either bit9 (stop Reply.InputOutput) (fin (λ s. ahead 1 (withRegister (picked bit11) s (s .switches * 256)))) tt
+      either bit9 (stop Refusal.InputOutput) (fin (λ s. ahead 1 (withRegister (picked bit11) s (s .switches * 256)))) tt
       (λ s h. ahead-sound 1 (withRegister (picked bit11) s (s .switches * 256)) (register-sound (picked bit11) s (s .switches * 256) h))
   panel-sound Ota bit11 bit9 =
-      either bit9 (stop Reply.InputOutput) (fin (λ s. ahead 1 (withLights s (inRegister (picked bit11) s % 256)))) tt (ahead-sound 1)
+      either bit9 (stop Refusal.InputOutput) (fin (λ s. ahead 1 (withLights s (inRegister (picked bit11) s % 256)))) tt (ahead-sound 1)
   panel-sound Control bit11 bit9 = tt
 
   io-sound : (io : IoOperation) (bit11 bit9 : Bool) (select : ℕ) (r : Registers) → KeepsSound (ioAct io bit11 bit9 select r)
   unfolding ioAct
   io-sound io bit11 bit9 select r =
       either (protecting (r .wmap) && (isHalt io || not (eqb select 1))) violate _ tt
-      (either (eqb select 1) (panelAct io bit11 bit9) (stop Reply.InputOutput) (panel-sound io bit11 bit9) tt)
+      (either (eqb select 1) (panelAct io bit11 bit9) (stop Refusal.InputOutput) (panel-sound io bit11 bit9) tt)
 
   -- words and bytes, and strings of them
 
@@ -260,12 +246,12 @@ module _ (wmap : ℕ) where
 
   moved-string-sound : (u : Element) (from to : Map) (s d n : ℕ) (k : Act) → KeepsSound k → KeepsSound (moved u from to s d n k)
   moved-string-sound u from to s d n k h =
-      either (touches u from s n || touches u to d n) (stop Reply.InRegisters) _ tt
+      either (touches u from s n || touches u to d n) (stop Refusal.InRegisters) _ tt
       (opens-sound u from Purpose.Read s n _ (opens-sound u to (purposeOf u) d n _
       (presents-sound u from s n _ (presents-sound u to d n _ (moving-sound u from to s d n k h)))))
 
   loaded-sound : (u : Element) (at : ℕ) (k : ℕ → Act) → ((w : ℕ) → KeepsSound (k w)) → KeepsSound (loadElement u at k)
-  loaded-sound u at k h = either (isRegister Execute (wordAt u at)) (stop Reply.InRegisters) (load Execute (wordAt u at) k) tt h
+  loaded-sound u at k h = either (isRegister Execute (wordAt u at)) (stop Refusal.InRegisters) (load Execute (wordAt u at) k) tt h
 
   ordered-sound : (o : Order) (x y z : Act) → KeepsSound x → KeepsSound y → KeepsSound z → KeepsSound (onOrder o x y z)
   ordered-sound Order.Smaller x y z p q h = p
@@ -284,7 +270,7 @@ module _ (wmap : ℕ) where
 
   byte-stored-sound : (r : Registers) → KeepsSound (byteStored r)
   byte-stored-sound r =
-      either (isRegister Execute (wordAt Byte (r .b))) (stop Reply.InRegisters) _ tt (λ w. ahead-sound 1)
+      either (isRegister Execute (wordAt Byte (r .b))) (stop Refusal.InRegisters) _ tt (λ w. ahead-sound 1)
 
   counted-sound : (r : Registers) (k : ℕ → Act) → ((c : ℕ) → KeepsSound (k c)) → KeepsSound (counted r k)
   counted-sound r k h = λ w at l c. either (noneToDo c) (goOn (address (r .p) 3)) (k c) (go-on-sound (r .p) 3) (h c)
@@ -305,73 +291,38 @@ module _ (wmap : ℕ) where
 
   -- the rules
 
-  operand-sound : (way : Way) (r : Registers) → KeepsSound (atOperand way r)
-  operand-sound way r = λ w m l. way-sound way r m 2 l
+  reached-sound : (from : Operand) (r : Registers) (k : ℕ → Act) → ((m : ℕ) → m < 0o100000 → KeepsSound (k m)) → KeepsSound (reached from r k)
+  reached-sound (Made word) r k h = h
+  reached-sound Next r k h = λ w. h
 
-  transfer-sound : (x : Transfer) (g : Register) (i : Index) (r : Registers) → KeepsSound (transferAct x g i r)
-  transfer-sound Sax g i r = operand-sound (Put (Source.Register g) Execute (Indexed i)) r
-  transfer-sound Cax g i r = to-index-sound g i
-  transfer-sound Lax g i r = operand-sound (Take (Load g) Execute (Indexed i)) r
-  transfer-sound Cxa g i r = from-index-sound g i
-  transfer-sound Xax g i r = exchanged-sound g i
+  act-sound : (a : Action) (r : Registers) → KeepsSound (act a r)
+  act-sound (At way from) r = reached-sound from r _ (λ m l. way-sound way r m (wordsOf from) l)
+  act-sound (Action.ShiftRotate i) r = shift-sound i
+  act-sound (Action.AlterSkip i) r = alter-sound i
+  act-sound (Action.InputOutput io bit11 bit9 select) r = io-sound io bit11 bit9 select r
+  act-sound (Action.LongShift kind n) r = long-sound kind n
+  act-sound (CopyToIndex g i) r = to-index-sound g i
+  act-sound (CopyFromIndex g i) r = from-index-sound g i
+  act-sound (Exchange g i) r = exchanged-sound g i
+  act-sound (CountUp i) r = stepped-index-sound i (incremented (inIndex i r) .word)
+  act-sound (CountDown i) r = stepped-index-sound i (decremented (inIndex i r) .word)
+  act-sound LoadByte r = byte-loaded-sound r
+  act-sound StoreByte r = byte-stored-sound r
+  act-sound (Move u) r = move-sound u r
+  act-sound (Action.Compare u) r = compare-sound u r
+  act-sound (Mask x) r = mask-sound x r
+  act-sound (Action.NotBuilt w) r = either (protecting (r .wmap) && privileged w) violate (stop Refusal.NotBuilt) tt tt
 
-  indexing-sound : (x : Indexing) (i : Index) (r : Registers) → KeepsSound (indexingAct x i r)
-  indexing-sound Stx i r = operand-sound (Put (Source.Index i) Execute Plain) r
-  indexing-sound Ldx i r = operand-sound (Take (LoadIndex i) Execute Plain) r
-  indexing-sound Adx i r = operand-sound (Take (AddIndex i) Execute Plain) r
-  indexing-sound Isx i r = stepped-index-sound i (incremented (inIndex i r) .word)
-  indexing-sound Dsx i r = stepped-index-sound i (decremented (inIndex i r) .word)
-
-  bytes-sound : (x : Bytes) (r : Registers) → KeepsSound (bytesAct x r)
-  bytes-sound Lbt r = byte-loaded-sound r
-  bytes-sound Sbt r = byte-stored-sound r
-  bytes-sound Mbt r = move-sound Byte r
-  bytes-sound Cbt r = compare-sound Byte r
-
-  words-sound : (x : Words) (r : Registers) → KeepsSound (wordsAct x r)
-  words-sound Cmw r = compare-sound Word r
-  words-sound Mvw r = move-sound Word r
-
-  extended-sound : (x : Extended) (r : Registers) → KeepsSound (extendedAct x r)
-  extended-sound (Extended.Cross x g d) r = operand-sound (crossWay x g d) r
-  extended-sound (Extended.Transfer x g i) r = transfer-sound x g i r
-  extended-sound (Extended.Indexing x i) r = indexing-sound x i r
-  extended-sound (Extended.Arithmetic x) r = operand-sound (arithmeticWay x) r
-  extended-sound (Extended.Bytes x) r = bytes-sound x r
-  extended-sound (Extended.Bits x) r = mask-sound x r
-  extended-sound (Extended.Words x) r = words-sound x r
-
-  rule-sound : (i : Instruction) (r : Registers) → KeepsSound (rule i r)
-  rule-sound (Instruction.MemoryReference operation indirect current offset) r = λ m l. way-sound (memoryWay operation) r m 1 l
-  rule-sound (Instruction.ShiftRotate i) r = shift-sound i
-  rule-sound (Instruction.AlterSkip i) r = alter-sound i
-  rule-sound (Instruction.InputOutput io bit11 bit9 select) r = io-sound io bit11 bit9 select r
-  rule-sound (Instruction.LongShift kind n) r = long-sound kind n
-  rule-sound (Instruction.Extended x) r = extended-sound x r
-  rule-sound (Instruction.NotBuilt w) r = either (protecting (r .wmap) && privileged w) violate (stop Reply.NotBuilt) tt tt
-
-  trap-way-sound : (way : Way) (r : Registers) (word : ℕ) → KeepsSound (trapWay way r word)
-  trap-way-sound (Take t map x) r word = tt
-  trap-way-sound (Put s map x) r word = tt
-  trap-way-sound LoadDouble r word = tt
-  trap-way-sound StoreDouble r word = tt
-  trap-way-sound StepAndSkip r word = tt
-  trap-way-sound Jump r word = λ m l s. trapped-sound s m l
-  trap-way-sound JumpSaving r word = λ m l s. trapped-sound s (address m 1) (address-fits m 1)
-
-  trap-sound : (i : Instruction) (r : Registers) → KeepsSound (trapRule i r)
-  trap-sound (Instruction.MemoryReference operation indirect current offset) r = trap-way-sound (memoryWay operation) r (memoryWord indirect current offset 0)
-  trap-sound (Instruction.ShiftRotate i) r = tt
-  trap-sound (Instruction.AlterSkip i) r = tt
-  trap-sound (Instruction.InputOutput io bit11 bit9 select) r = tt
-  trap-sound (Instruction.LongShift kind n) r = tt
-  trap-sound (Instruction.Extended x) r = tt
-  trap-sound (Instruction.NotBuilt w) r = tt
+  trap-sound : (w : ℕ) (r : Registers) → KeepsSound (trapRule w r)
+  unfolding trapRule
+  trap-sound w r =
+      either (holds Operation.Jmp w) _ _ (λ m l s. trapped-sound s m l)
+      (either (holds Operation.Jsb w) _ (stop Refusal.TrapCell) (λ m l s. trapped-sound s (address m 1) (address-fits m 1)) tt)
 
   pub step-act-sound : (r : Registers) → KeepsSound (stepAct r)
   step-act-sound r =
-      either (eqb (r .trap) 0) (load Execute (r .p) (λ w. rule (reading w) r)) (load Execute (r .trap) (λ w. trapRule (reading w) r))
-      (λ w. rule-sound (reading w) r) (λ w. trap-sound (reading w) r)
+      either (eqb (r .trap) 0) (load Execute (r .p) (λ w. rule (reading w) r)) (load Execute (r .trap) (λ w. trapRule w r))
+      (λ w. act-sound (action (reading w) (r .p)) r) (λ w. trap-sound w r)
 
 -- A step.
 
@@ -379,7 +330,7 @@ module _ (wmap : ℕ) where
 abbrev pub After : Registers → Result → Type 0
 After r x = Valid (answer r x .registers) × (eqb (number (answer r x .reply)) 0 ≡ true → answer r x .registers .wmap ≡ r .wmap)
 
-carries-sound : (r : Registers) → Valid r → Carries (Sound (r .wmap)) (λ _. Unit) Refusal (After r)
+carries-sound : (r : Registers) → Valid r → Carries (Sound (r .wmap)) (λ _. Unit) (After r)
 carries-sound r h =
     record {
       in-a = λ s v e. e;
@@ -387,9 +338,7 @@ carries-sound r h =
       in-memory = λ m i v _. tt;
       completion = λ s m e _. (e .0, λ q. e .1);
       violation = (interrupted-valid r h, λ q. never (sym q));
-      refusal = λ reply _. (h, λ q. refl);
-      absent = tt;
-      endless = tt;
+      refusal = λ refusal. (h, λ q. refl);
     }
 
 pub step-sound : (pages : List ℕ) (r : Registers) (m : List ℕ) → valid r ≡ true → After r (exec pages (stepAct r) r m)
@@ -398,25 +347,3 @@ step-sound pages r m h = exec-holds (carries-sound r h) pages (stepAct r) (step-
 pub step-valid : (pages : List ℕ) (r : Registers) (m : List ℕ) → valid r ≡ true
     → valid (answer r (exec pages (stepAct r) r m) .registers) ≡ true
 step-valid pages r m h = step-sound pages r m h .0
-
--- what a result refuses with
-abbrev pub Fair : Result → Type 0
-Fair (done s m) = Unit
-Fair violated = Unit
-Fair (refused reply) = Refusal reply
-
-carries-fair : (wmap : ℕ) → Carries (Sound wmap) (λ _. Unit) Refusal Fair
-carries-fair wmap =
-    record {
-      in-a = λ s v e. e;
-      in-b = λ s v e. e;
-      in-memory = λ m i v _. tt;
-      completion = λ s m e _. tt;
-      violation = tt;
-      refusal = λ reply q. q;
-      absent = tt;
-      endless = tt;
-    }
-
-pub step-fair : (pages : List ℕ) (r : Registers) (m : List ℕ) → valid r ≡ true → Fair (exec pages (stepAct r) r m)
-step-fair pages r m h = exec-holds (carries-fair (r .wmap)) pages (stepAct r) (step-act-sound (r .wmap) r) r m (h, refl) tt

@@ -1,27 +1,28 @@
 -- The rule of each instruction, and of a step: what 01's section "Instructions built" says, in its order.
---     memoryWay, memoryWord, memoryAct     memory reference
---     dataMap, arithmeticWay .. extendedAct    the extended codes
---     rule, trapRule                       an instruction, and the word of a trap cell
+--     memoryWay, memoryWord                memory reference
+--     dataMap, arithmeticWay .. extendedAction    the extended codes
+--     action, act, rule                    what an instruction asks for, its accesses, and both
+--     holds, trapRule                      the word of a trap cell
 --     stepAct                              one step: fetch, then what was read
 -- Assumes nothing.
 use Prim.Native.Nat.{ℕ, _+_, _*_, _/_, _%_}
 use mathlib.Core.Bool.{Bool, cond, _&&_}
 use lib.Dec.{eqb}
-use Rattle.word.specs.Words.{weight}
+use Rattle.word.specs.Words.{bit, weight}
 use Rattle.word.specs.Sums.{incremented, decremented, address}
 use Rattle.word.specs.declared.sums.Sum.{Sum}
 use Rattle.maps.specs.Pages.{protecting}
 use Rattle.maps.specs.declared.pages.Map.{Map}
 use Rattle.maps.specs.declared.pages.Map.the-variants.{Execute, Data1, Data2}
 use Rattle.code.specs.Codes.{privileged}
-use Rattle.code.specs.Instructions.{reading}
+use Rattle.code.specs.Instructions.{operationCode, reading}
 use Rattle.acts.specs.Record.{withP, withTrap, inIndex}
 use Rattle.acts.specs.Acts.{Act, fin, stop, violate, load, save, follow, operand}
 use Rattle.effects.specs.Ways.{wayAct}
 use Rattle.effects.specs.Group.{shiftRotated, alterSkipped, longRotated, copiedToIndex, copiedFromIndex, exchanged, indexStepped, ioAct}
 use Rattle.strings.specs.Strings.{byteLoaded, byteStored, moveAct, compareAct, maskAct}
 use Rattle.acts.specs.declared.record.Registers.{Registers}
-use Rattle.acts.specs.declared.replies.Reply.{Reply}
+use Rattle.acts.specs.declared.replies.Refusal.{Refusal}
 use Rattle.code.specs.declared.codes.Register.{Register}
 use Rattle.code.specs.declared.codes.Register.the-variants.{A, B}
 use Rattle.code.specs.declared.codes.Index.{Index}
@@ -48,6 +49,10 @@ use Rattle.effects.specs.declared.ways.Addressing.the-variants.{Plain, Indexed}
 use Rattle.effects.specs.declared.ways.Way.{Way}
 use Rattle.effects.specs.declared.ways.Way.the-variants.{Take, Put, LoadDouble, StoreDouble, StepAndSkip, Jump, JumpSaving}
 use Rattle.strings.specs.declared.strings.Element.{Element}
+use Rattle.rules.specs.declared.actions.Operand.{Operand}
+use Rattle.rules.specs.declared.actions.Operand.the-variants.{Made, Next}
+use Rattle.rules.specs.declared.actions.Action.{Action}
+use Rattle.rules.specs.declared.actions.Action.the-variants.{At, CopyToIndex, CopyFromIndex, Exchange, CountUp, CountDown, LoadByte, StoreByte, Move, Compare, Mask}
 
 -- AND JSB XOR JMP IOR ISZ ADA ADB CPA CPB LDA LDB STA STB
 abbrev pub memoryWay : Operation → Way
@@ -89,75 +94,94 @@ crossWay Xl g d = Take (Taking.Load g) (dataMap d) Plain
 crossWay Xs g d = Put (Source.Register g) (dataMap d) Plain
 crossWay Xc g d = Take (Taking.Compare g) (dataMap d) Plain
 
--- a two-word instruction goes its way at the address that its second word leads to
-abbrev pub atOperand : Way → Registers → Act
-atOperand way r = operand 1 r (λ m. wayAct way r m 2)
+-- where an instruction finds its address word: it is made from the instruction itself, or is the next word
+abbrev pub reached : Operand → Registers → (ℕ → Act) → Act
+reached (Made word) r k = follow word k
+reached Next r k = operand 1 r k
 
-abbrev pub transferAct : Transfer → Register → Index → Registers → Act
-transferAct Sax g i r = atOperand (Put (Source.Register g) Execute (Indexed i)) r
-transferAct Cax g i r = fin (copiedToIndex g i)
-transferAct Lax g i r = atOperand (Take (Taking.Load g) Execute (Indexed i)) r
-transferAct Cxa g i r = fin (copiedFromIndex g i)
-transferAct Xax g i r = fin (exchanged g i)
+abbrev pub wordsOf : Operand → ℕ
+wordsOf (Made word) = 1
+wordsOf Next = 2
 
-abbrev pub indexingAct : Indexing → Index → Registers → Act
-indexingAct Stx i r = atOperand (Put (Source.Index i) Execute Plain) r
-indexingAct Ldx i r = atOperand (Take (Taking.LoadIndex i) Execute Plain) r
-indexingAct Adx i r = atOperand (Take (Taking.AddIndex i) Execute Plain) r
-indexingAct Isx i r = fin (indexStepped i (incremented (inIndex i r) .word))
-indexingAct Dsx i r = fin (indexStepped i (decremented (inIndex i r) .word))
+abbrev pub transferAction : Transfer → Register → Index → Action
+transferAction Sax g i = At (Put (Source.Register g) Execute (Indexed i)) Next
+transferAction Cax g i = CopyToIndex g i
+transferAction Lax g i = At (Take (Taking.Load g) Execute (Indexed i)) Next
+transferAction Cxa g i = CopyFromIndex g i
+transferAction Xax g i = Exchange g i
 
-abbrev pub bytesAct : Bytes → Registers → Act
-bytesAct Lbt r = byteLoaded r
-bytesAct Sbt r = byteStored r
-bytesAct Mbt r = moveAct Element.Byte r
-bytesAct Cbt r = compareAct Element.Byte r
+abbrev pub indexingAction : Indexing → Index → Action
+indexingAction Stx i = At (Put (Source.Index i) Execute Plain) Next
+indexingAction Ldx i = At (Take (Taking.LoadIndex i) Execute Plain) Next
+indexingAction Adx i = At (Take (Taking.AddIndex i) Execute Plain) Next
+indexingAction Isx i = CountUp i
+indexingAction Dsx i = CountDown i
 
-abbrev pub wordsAct : Words → Registers → Act
-wordsAct Cmw r = compareAct Element.Word r
-wordsAct Mvw r = moveAct Element.Word r
+abbrev pub bytesAction : Bytes → Action
+bytesAction Lbt = LoadByte
+bytesAction Sbt = StoreByte
+bytesAction Mbt = Move Element.Byte
+bytesAction Cbt = Compare Element.Byte
 
-abbrev pub extendedAct : Extended → Registers → Act
-extendedAct (Extended.Cross x g d) r = atOperand (crossWay x g d) r
-extendedAct (Extended.Transfer x g i) r = transferAct x g i r
-extendedAct (Extended.Indexing x i) r = indexingAct x i r
-extendedAct (Extended.Arithmetic x) r = atOperand (arithmeticWay x) r
-extendedAct (Extended.Bytes x) r = bytesAct x r
-extendedAct (Extended.Bits x) r = maskAct x r
-extendedAct (Extended.Words x) r = wordsAct x r
+abbrev pub wordsAction : Words → Action
+wordsAction Cmw = Compare Element.Word
+wordsAction Mvw = Move Element.Word
+
+abbrev pub extendedAction : Extended → Action
+extendedAction (Extended.Cross x g d) = At (crossWay x g d) Next
+extendedAction (Extended.Transfer x g i) = transferAction x g i
+extendedAction (Extended.Indexing x i) = indexingAction x i
+extendedAction (Extended.Arithmetic x) = At (arithmeticWay x) Next
+extendedAction (Extended.Bytes x) = bytesAction x
+extendedAction (Extended.Bits x) = Mask x
+extendedAction (Extended.Words x) = wordsAction x
+
+-- what an instruction at p asks for
+abbrev pub action : Instruction → ℕ → Action
+action (Instruction.MemoryReference operation indirect current offset) p =
+    At (memoryWay operation) (Made (memoryWord indirect current offset p))
+action (Instruction.ShiftRotate i) p = Action.ShiftRotate i
+action (Instruction.AlterSkip i) p = Action.AlterSkip i
+action (Instruction.InputOutput io bit11 bit9 select) p = Action.InputOutput io bit11 bit9 select
+action (Instruction.LongShift kind n) p = Action.LongShift kind n
+action (Instruction.Extended x) p = extendedAction x
+action (Instruction.NotBuilt w) p = Action.NotBuilt w
+
+-- the accesses of each
+abbrev pub act : Action → Registers → Act
+act (At way from) r = reached from r (λ m. wayAct way r m (wordsOf from))
+act (Action.ShiftRotate i) r = fin (shiftRotated i)
+act (Action.AlterSkip i) r = fin (alterSkipped i)
+act (Action.InputOutput io bit11 bit9 select) r = ioAct io bit11 bit9 select r
+act (Action.LongShift kind n) r = fin (longRotated kind n)
+act (CopyToIndex g i) r = fin (copiedToIndex g i)
+act (CopyFromIndex g i) r = fin (copiedFromIndex g i)
+act (Exchange g i) r = fin (exchanged g i)
+act (CountUp i) r = fin (indexStepped i (incremented (inIndex i r) .word))
+act (CountDown i) r = fin (indexStepped i (decremented (inIndex i r) .word))
+act LoadByte r = byteLoaded r
+act StoreByte r = byteStored r
+act (Move u) r = moveAct u r
+act (Compare u) r = compareAct u r
+act (Mask x) r = maskAct x r
+-- 01, Violation: "codes 105700 to 105711 are violations. With protection off .. 105700 to 105711 reply 6."
+act (Action.NotBuilt w) r = cond (protecting (r .wmap) && privileged w) violate (stop Refusal.NotBuilt)
 
 abbrev pub rule : Instruction → Registers → Act
-rule (Instruction.MemoryReference operation indirect current offset) r =
-    follow (memoryWord indirect current offset (r .p)) (λ m. wayAct (memoryWay operation) r m 1)
-rule (Instruction.ShiftRotate i) r = fin (shiftRotated i)
-rule (Instruction.AlterSkip i) r = fin (alterSkipped i)
-rule (Instruction.InputOutput io bit11 bit9 select) r = ioAct io bit11 bit9 select r
-rule (Instruction.LongShift kind n) r = fin (longRotated kind n)
-rule (Instruction.Extended x) r = extendedAct x r
--- 01, Violation: "codes 105700 to 105711 are violations. With protection off .. 105700 to 105711 reply 6."
-rule (Instruction.NotBuilt w) r = cond (protecting (r .wmap) && privileged w) violate (stop Reply.NotBuilt)
+rule i r = act (action i (r .p)) r
 
 -- 01: "The next step executes the word at Execute address 7, as an instruction on page 0, without moving P. JSB stores P itself
 -- as the return address. The trap is then 0." A cell that "holds neither JMP nor JSB" replies 7.
-abbrev pub trapWay : Way → Registers → ℕ → Act
-trapWay (Take t map x) r word = stop Reply.TrapCell
-trapWay (Put s map x) r word = stop Reply.TrapCell
-trapWay LoadDouble r word = stop Reply.TrapCell
-trapWay StoreDouble r word = stop Reply.TrapCell
-trapWay StepAndSkip r word = stop Reply.TrapCell
-trapWay Jump r word = follow word (λ m. fin (λ s. withTrap (withP s m) 0))
-trapWay JumpSaving r word = follow word (λ m. save Execute m (r .p) (fin (λ s. withTrap (withP s (address m 1)) 0)))
+abbrev pub holds : Operation → ℕ → Bool
+holds operation word = eqb (word / 0o4000 % 16 * 0o4000) (operationCode operation)
 
-abbrev pub trapRule : Instruction → Registers → Act
-trapRule (Instruction.MemoryReference operation indirect current offset) r = trapWay (memoryWay operation) r (memoryWord indirect current offset 0)
-trapRule (Instruction.ShiftRotate i) r = stop Reply.TrapCell
-trapRule (Instruction.AlterSkip i) r = stop Reply.TrapCell
-trapRule (Instruction.InputOutput io bit11 bit9 select) r = stop Reply.TrapCell
-trapRule (Instruction.LongShift kind n) r = stop Reply.TrapCell
-trapRule (Instruction.Extended x) r = stop Reply.TrapCell
-trapRule (Instruction.NotBuilt w) r = stop Reply.TrapCell
+unfoldable pub trapRule : ℕ → Registers → Act
+trapRule w r =
+    let word : ℕ = memoryWord (bit 15 w) (bit 10 w) (w % 0o2000) 0 in
+    cond (holds Operation.Jmp w) (follow word (λ m. fin (λ s. withTrap (withP s m) 0)))
+    (cond (holds Operation.Jsb w) (follow word (λ m. save Execute m (r .p) (fin (λ s. withTrap (withP s (address m 1)) 0))))
+    (stop Refusal.TrapCell))
 
 -- 01, "Order inside a step: fetch; with a trap waiting, the cell's kind (7); .."
 abbrev pub stepAct : Registers → Act
-stepAct r =
-    cond (eqb (r .trap) 0) (load Execute (r .p) (λ w. rule (reading w) r)) (load Execute (r .trap) (λ w. trapRule (reading w) r))
+stepAct r = cond (eqb (r .trap) 0) (load Execute (r .p) (λ w. rule (reading w) r)) (load Execute (r .trap) (λ w. trapRule w r))

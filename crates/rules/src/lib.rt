@@ -1,2 +1,3 @@
-// What a memory reference and a trap cell stand for.
+// What a word asks for, apart from registers and memory.
+pub mod actions;
 pub mod memory;

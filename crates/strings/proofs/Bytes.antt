@@ -16,33 +16,33 @@ use Rattle.maps.specs.Bytes.{byteWord, isLowByte}
 use Rattle.maps.specs.declared.pages.Map.{Map}
 use Rattle.maps.specs.declared.pages.Purpose.{Purpose}
 use Rattle.maps.specs.declared.pages.Place.{Place}
-use Rattle.maps.specs.declared.pages.Presence.{Presence}
+use Rattle.maps.specs.declared.troubles.Trouble.{Trouble}
+use Rattle.maps.specs.declared.troubles.Tested.{Tested}
 use Rattle.acts.specs.Record.{withB, ahead}
-use Rattle.acts.specs.Acts.{Act, Result, done, violated, refused, onFetched, onPlace, onOpen, exec}
+use Rattle.acts.specs.Acts.{Act, Result, done, refused, troubled, onGot, onPlace, onOpen, exec}
 use Rattle.strings.specs.Strings.{along, byteStored}
 use Rattle.acts.specs.declared.record.Registers.{Registers}
-use Rattle.acts.specs.declared.replies.Reply.{Reply}
+use Rattle.acts.specs.declared.replies.Refusal.{Refusal}
 use Rattle.strings.specs.declared.strings.Element.{Element}
 
 abbrev pub ended : Place → Registers → List ℕ → Result
-ended Place.A r m = refused Reply.InRegisters
-ended Place.B r m = refused Reply.InRegisters
+ended Place.A r m = refused Refusal.InRegisters
+ended Place.B r m = refused Refusal.InRegisters
 ended (Place.Memory i) r m =
     done (ahead 1 (withB r (along Element.Byte (r .b) 1))) (set m i (withByte (isLowByte (r .b)) (getD m i 0) (r .a % 256)))
-ended Place.Closed r m = violated
-ended (Place.Absent page) r m = refused Reply.Absent
+ended (Place.Ends t) r m = troubled t
 
 -- an access whose page is shut or not
 abbrev reach : Bool → Bool → Bool → Bool → ℕ → ℕ → Place
 reach register first shut inside i page =
     cond (register || not shut)
-    (ifPresent (cond (register || inside) Presence.Present (Presence.Absent page)) (cond register (cond first Place.A Place.B) (Place.Memory i)))
-    Place.Closed
+    (ifPresent (cond (register || inside) Tested.Sound (Tested.Ends (Trouble.Absent page))) (cond register (cond first Place.A Place.B) (Place.Memory i)))
+    (Place.Ends Trouble.Closed)
 
 by-tests : (register first on reads stores inside : Bool) (i page : ℕ) (r : Registers) (m : List ℕ)
-    → cond register (refused Reply.InRegisters)
+    → cond register (refused Refusal.InRegisters)
     (onOpen (register || not (on && (reads || stores)))
-    (onFetched (held (reach register first (on && reads) inside i page) m (r .a) (r .b))
+    (onGot (held (reach register first (on && reads) inside i page) m (r .a) (r .b))
     (λ w. onPlace (reach register first (on && stores) inside i page) (withByte (isLowByte (r .b)) w (r .a % 256))
     (λ s n. done (ahead 1 (withB s (along Element.Byte (r .b) 1))) n) r m)))
     ≡ ended (reach register first (on && (reads || stores)) inside i page) r m

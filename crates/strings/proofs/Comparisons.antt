@@ -10,7 +10,7 @@ use Rattle.word.specs.declared.orders.Order.{Order}
 use Rattle.acts.specs.Acts.{Act, fin, exec, troubled}
 use Rattle.strings.specs.Strings.{along, onOrder, pairing, compared, comparing, Compares}
 use Rattle.acts.specs.declared.record.Registers.{Registers}
-use Rattle.acts.specs.declared.replies.Trouble.{Trouble}
+use Rattle.maps.specs.declared.troubles.Trouble.{Trouble}
 use Rattle.strings.specs.declared.strings.Element.{Element}
 use Rattle.strings.specs.declared.strings.Pair.{Pair}
 

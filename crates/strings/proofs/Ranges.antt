@@ -17,11 +17,13 @@ use Rattle.maps.proofs.Laws.{place-reached, place-below, open-both}
 use Rattle.maps.specs.declared.pages.Map.{Map}
 use Rattle.maps.specs.declared.pages.Purpose.{Purpose}
 use Rattle.maps.specs.declared.pages.Place.{Place}
-use Rattle.maps.specs.declared.pages.Presence.{Presence}
-use Rattle.acts.specs.Acts.{Act, Result, fin, stop, done, violated, refused, onOpen, onPresence, exec, Ends}
+use Rattle.maps.specs.declared.troubles.Trouble.{Trouble}
+use Rattle.maps.specs.declared.troubles.Tested.{Tested}
+use Rattle.acts.specs.Acts.{Act, Result, fin, stop, done, violated, refused, onOpen, onTested, exec, Ends}
 use Rattle.strings.specs.Strings.{wordAt, along, purposeOf, touches, opensAll, presentAll, moving, tested}
 use Rattle.strings.specs.Copies.{placeIn, carried}
 use Rattle.acts.specs.declared.record.Registers.{Registers}
+use Rattle.acts.specs.declared.replies.Refusal.{Refusal}
 use Rattle.acts.specs.declared.replies.Reply.{Reply}
 use Rattle.acts.specs.declared.replies.Stepped.{Stepped}
 use Rattle.strings.specs.declared.strings.Element.{Element}
@@ -43,9 +45,12 @@ open-goes : (b : Bool) (x : Result) {s : Registers} {m : List ℕ} → onOpen b 
 open-goes true x e = (refl, e)
 open-goes false x e = never (cc)
 
-present-goes : (p : Presence) (x : Result) {s : Registers} {m : List ℕ} → onPresence p x ≡ done s m → (p ≡ Presence.Present) × (x ≡ done s m)
-present-goes Presence.Present x e = (refl, e)
-present-goes (Presence.Absent page) x e = never (cc)
+present-goes : (p : Tested) (x : Result) {s : Registers} {m : List ℕ} → onTested p x ≡ done s m → (p ≡ Tested.Sound) × (x ≡ done s m)
+present-goes Tested.Sound x e = (refl, e)
+present-goes (Tested.Ends Trouble.Closed) x e = never (cc)
+present-goes (Tested.Ends (Trouble.Absent page)) x e = never (cc)
+present-goes (Tested.Ends Trouble.Endless) x e = never (cc)
+present-goes (Tested.Ends Trouble.InRegisters) x e = never (cc)
 
 pub finished : (r : Registers) (m : List ℕ) {x : Result} {t : Registers} {q : Stepped} {l : List ℕ}
     → x ≡ done t l → q ≡ record { reply = Reply.Completed; registers = t } → Ends r m x q l
@@ -55,7 +60,7 @@ module _ (pages : List ℕ) (wmap size : ℕ) (u : Element) (map : Map) (purpose
   pub record InMemory (at : ℕ) : Type 0 where
     pub memory : isRegister map (wordAt u at) ≡ false
     pub allowed : isOpen pages wmap map purpose (wordAt u at) ≡ true
-    pub there : presence pages wmap map (wordAt u at) size ≡ Presence.Present
+    pub there : presence pages wmap map (wordAt u at) size ≡ Tested.Sound
 
   unfoldable pub Reaches : ℕ → ℕ → Type 0
   Reaches at zero = Unit
@@ -102,9 +107,9 @@ module _ (pages : List ℕ) where
     opens-on u map purpose at zero k m l d e f = absurd (omega arith)
     opens-on u map purpose at (suc n) k m l d e f = let o : suc n - 1 ≡ n = omega arith in rw (o, ← d, ← e, f)
 
-    pub presents-on : (u : Element) (map : Map) (at n : ℕ) (k : Act) (m : List ℕ) {w : ℕ} {p p′ : Presence} → 0 < n
+    pub presents-on : (u : Element) (map : Map) (at n : ℕ) (k : Act) (m : List ℕ) {w : ℕ} {p p′ : Tested} → 0 < n
         → w ≡ wordAt u at → p ≡ presence pages (r .wmap) map w (length m) → p ≡ p′
-        → exec pages (presentAll u map at n k) r m ≡ onPresence p′ (exec pages (presentAll u map (along u at 1) (n - 1) k) r m)
+        → exec pages (presentAll u map at n k) r m ≡ onTested p′ (exec pages (presentAll u map (along u at 1) (n - 1) k) r m)
     unfolding exec presentAll
     presents-on u map at zero k m l d e f = absurd (omega arith)
     presents-on u map at (suc n) k m l d e f = let o : suc n - 1 ≡ n = omega arith in rw (o, ← d, ← e, f)
@@ -142,7 +147,7 @@ module _ (pages : List ℕ) where
     ready u from to s d n m {t} {l} e = go (touches u from s n) (touches u to d n) refl refl e
       where
         go : (x y : Bool) → touches u from s n ≡ x → touches u to d n ≡ y
-            → exec pages (cond (x || y) (stop Reply.InRegisters)
+            → exec pages (cond (x || y) (stop Refusal.InRegisters)
             (opensAll u from Purpose.Read s n (opensAll u to (purposeOf u) d n
             (presentAll u from s n (presentAll u to d n (fin (λ q. q))))))) r m ≡ done t l
             → Reaches pages (r .wmap) (length m) u from Purpose.Read s n × Reaches pages (r .wmap) (length m) u to (purposeOf u) d n
@@ -155,12 +160,12 @@ module _ (pages : List ℕ) where
             (reaches u from Purpose.Read s n _ _ m a f h, reaches u to (purposeOf u) d n _ _ m b g i)
 
     -- the tests of a move told to succeed
-    pub passes : (u : Element) (from to : Map) (s d n : ℕ) (m : List ℕ) (k : Act) {x y o : Bool} {p : Presence}
+    pub passes : (u : Element) (from to : Map) (s d n : ℕ) (m : List ℕ) (k : Act) {x y o : Bool} {p : Tested}
         → x ≡ touches u from s n → y ≡ touches u to d n → (x || y) ≡ false
         → ((m : List ℕ) (k : Act) → exec pages (opensAll u from Purpose.Read s n (opensAll u to (purposeOf u) d n k)) r m ≡ onOpen o (exec pages k r m))
         → o ≡ true
-        → ((k : Act) → exec pages (presentAll u from s n (presentAll u to d n k)) r m ≡ onPresence p (exec pages k r m))
-        → p ≡ Presence.Present
+        → ((k : Act) → exec pages (presentAll u from s n (presentAll u to d n k)) r m ≡ onTested p (exec pages k r m))
+        → p ≡ Tested.Sound
         → exec pages (tested u from to s d n k) r m ≡ exec pages k r m
     passes u from to s d n m k e f g h i j l = rw (← e, ← f, g) (h m _ ∙ (rw i (j k ∙ (rw l))))
 

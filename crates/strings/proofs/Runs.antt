@@ -16,8 +16,9 @@ use Rattle.maps.specs.Pages.{physicalPage, registerOf, pageRegister, indexIn, i
 use Rattle.maps.proofs.Laws.{open-by-page}
 use Rattle.maps.specs.declared.pages.Map.{Map}
 use Rattle.maps.specs.declared.pages.Purpose.{Purpose}
-use Rattle.maps.specs.declared.pages.Presence.{Presence}
-use Rattle.acts.specs.Acts.{Act, Result, onPresence, exec}
+use Rattle.maps.specs.declared.troubles.Trouble.{Trouble}
+use Rattle.maps.specs.declared.troubles.Tested.{Tested}
+use Rattle.acts.specs.Acts.{Act, Result, onTested, exec}
 use Rattle.strings.specs.Strings.{wordAt, along, touches, opensAll, presentAll}
 use Rattle.strings.specs.Copies.{perPage, Run}
 use Rattle.acts.specs.declared.record.Registers.{Registers}
@@ -91,16 +92,16 @@ module _ (pages : List ℕ) (r : Registers) where
       ∙ opens-run u map purpose (along u at 1) j (n - 1) k m (omega arith) (omega (arith, q .next)) (x .1) (sym z ∙ o))
 
   -- on a page, what lies below a word that is present is present; below an absent one the same page may be
-  present-below : (wmap : ℕ) (map : Map) (x y size : ℕ) {p : Presence} → isRegister map x ≡ false → isRegister map y ≡ false
+  present-below : (wmap : ℕ) (map : Map) (x y size : ℕ) {p : Tested} → isRegister map x ≡ false → isRegister map y ≡ false
       → x / 1024 % 32 ≡ y / 1024 % 32 → x % 1024 ≤ y % 1024 → presence pages wmap map y size ≡ p
-      → (presence pages wmap map x size ≡ Presence.Present) ⊎ (presence pages wmap map x size ≡ p)
+      → (presence pages wmap map x size ≡ Tested.Sound) ⊎ (presence pages wmap map x size ≡ p)
   unfolding presence
   present-below wmap map x y size {p} one two same l e =
       go (ltb (indexIn (registerOf pages wmap map x) x) size) (ltb (indexIn (registerOf pages wmap map y) y) size) refl refl (rw two at e)
     where
       go : (a b : Bool) → ltb (indexIn (registerOf pages wmap map x) x) size ≡ a → ltb (indexIn (registerOf pages wmap map y) y) size ≡ b
-          → cond b Presence.Present (Presence.Absent (physicalPage (registerOf pages wmap map y))) ≡ p
-          → (presence pages wmap map x size ≡ Presence.Present) ⊎ (presence pages wmap map x size ≡ p)
+          → cond b Tested.Sound (Tested.Ends (Trouble.Absent (physicalPage (registerOf pages wmap map y)))) ≡ p
+          → (presence pages wmap map x size ≡ Tested.Sound) ⊎ (presence pages wmap map x size ≡ p)
       go true b f g h = inl (rw (one, f))
       go false false f g h = inr (rw (one, f, same) h)
       go false true f g h =
@@ -109,10 +110,10 @@ module _ (pages : List ℕ) (r : Registers) where
           let q : registerOf pages wmap map x ≡ registerOf pages wmap map y = ap (pageRegister pages wmap map) same in
           absurd (omega (arith, ap physicalPage q))
 
-  presents-run : (u : Element) (map : Map) (at j n : ℕ) (k : Act) (m : List ℕ) (p : Presence) → at < 65536
+  presents-run : (u : Element) (map : Map) (at j n : ℕ) (k : Act) (m : List ℕ) (p : Tested) → at < 65536
       → suc j ≤ n → at % perPage u + suc j ≤ perPage u → touches u map at n ≡ false
       → presence pages (r .wmap) map (wordAt u (along u at j)) (length m) ≡ p
-      → exec pages (presentAll u map at n k) r m ≡ onPresence p (exec pages (presentAll u map (along u at (suc j)) (n - suc j) k) r m)
+      → exec pages (presentAll u map at n k) r m ≡ onTested p (exec pages (presentAll u map (along u at (suc j)) (n - suc j) k) r m)
   presents-run u map at zero n k m p b l q t e = presents-on pages r u map at n k m (omega arith) (start u at b) refl e
     where
       start : (u : Element) (at : ℕ) → at < 65536 → wordAt u (along u at 0) ≡ wordAt u at
@@ -132,12 +133,12 @@ module _ (pages : List ℕ) (r : Registers) where
       below Word at = omega arith
       below Byte at = omega arith
 
-      go : (p : Presence) (z : Result) → exec pages (presentAll u map (along u at 1) (n - 1) k) r m ≡ onPresence p z
-          → (presence pages (r .wmap) map (wordAt u at) (length m) ≡ Presence.Present) ⊎ (presence pages (r .wmap) map (wordAt u at) (length m) ≡ p)
-          → exec pages (presentAll u map at n k) r m ≡ onPresence p z
+      go : (p : Tested) (z : Result) → exec pages (presentAll u map (along u at 1) (n - 1) k) r m ≡ onTested p z
+          → (presence pages (r .wmap) map (wordAt u at) (length m) ≡ Tested.Sound) ⊎ (presence pages (r .wmap) map (wordAt u at) (length m) ≡ p)
+          → exec pages (presentAll u map at n k) r m ≡ onTested p z
       go p z h (inl f) = presents-on pages r u map at n k m (omega arith) refl refl f ∙ h
-      go Presence.Present z h (inr f) = presents-on pages r u map at n k m (omega arith) refl refl f ∙ h
-      go (Presence.Absent page) z h (inr f) = presents-on pages r u map at n k m (omega arith) refl refl f
+      go Tested.Sound z h (inr f) = presents-on pages r u map at n k m (omega arith) refl refl f ∙ h
+      go (Tested.Ends t) z h (inr f) = presents-on pages r u map at n k m (omega arith) refl refl f
 
   pub opens-past : (u : Element) (map : Map) (purpose : Purpose) (at n t : ℕ) (k : Act) (m : List ℕ) {w : ℕ} {b : Bool} → 0 < n
       → Run u at n t → touches u map at n ≡ false
@@ -147,10 +148,10 @@ module _ (pages : List ℕ) (r : Registers) where
   opens-past u map purpose at n (suc j) k m l h t d e f =
       opens-run u map purpose at j n k m (h .within) (h .page) t (rw (← d) (sym e ∙ f))
 
-  pub presents-past : (u : Element) (map : Map) (at n t : ℕ) (k : Act) (m : List ℕ) {last w : ℕ} {p p′ : Presence} → 0 < n
+  pub presents-past : (u : Element) (map : Map) (at n t : ℕ) (k : Act) (m : List ℕ) {last w : ℕ} {p p′ : Tested} → 0 < n
       → Run u at n t → touches u map at n ≡ false → at < 65536
       → last ≡ along u at (t - 1) → w ≡ wordAt u last → p ≡ presence pages (r .wmap) map w (length m) → p ≡ p′
-      → exec pages (presentAll u map at n k) r m ≡ onPresence p′ (exec pages (presentAll u map (along u at t) (n - t) k) r m)
+      → exec pages (presentAll u map at n k) r m ≡ onTested p′ (exec pages (presentAll u map (along u at t) (n - t) k) r m)
   presents-past u map at n zero k m l h t b c d e f = absurd (omega (arith, h .some l))
   presents-past u map at n (suc j) k m {last} {w} {p} {p′} l h t b c d e f =
       let o : suc j - 1 ≡ j = omega arith in

@@ -26,7 +26,7 @@ use Rattle.code.specs.declared.codes.Bits.the-variants.{Sbs, Cbs, Tbs}
 use Rattle.acts.specs.Record.{withA, withB, ahead}
 use Rattle.acts.specs.Acts.{Act, fin, stop, load, save, opened, present, operand, done, exec, answer, troubled, goOn}
 use Rattle.acts.specs.declared.record.Registers.{Registers}
-use Rattle.acts.specs.declared.replies.Reply.{Reply}
+use Rattle.acts.specs.declared.replies.Refusal.{Refusal}
 use Rattle.acts.specs.declared.replies.Stepped.{Stepped}
 use Rattle.strings.specs.declared.strings.Pair.{Pair}
 use Rattle.strings.specs.declared.strings.Found.{Found}
@@ -79,7 +79,7 @@ moving u from to s d (suc n) k =
 -- 01: "Before the first store the whole ranges are tested: reply 5, then 1, then 4."
 abbrev pub tested : Element → Map → Map → ℕ → ℕ → ℕ → Act → Act
 tested u from to s d n k =
-    cond (touches u from s n || touches u to d n) (stop Reply.InRegisters)
+    cond (touches u from s n || touches u to d n) (stop Refusal.InRegisters)
     (opensAll u from Purpose.Read s n (opensAll u to (purposeOf u) d n
     (presentAll u from s n (presentAll u to d n k))))
 
@@ -97,7 +97,7 @@ onOrder Order.Greater smaller equal greater = greater
 
 -- the word that holds an element: reply 5 before the access's own tests
 abbrev pub loadElement : Element → ℕ → (ℕ → Act) → Act
-loadElement u at k = cond (isRegister Execute (wordAt u at)) (stop Reply.InRegisters) (load Execute (wordAt u at) k)
+loadElement u at k = cond (isRegister Execute (wordAt u at)) (stop Refusal.InRegisters) (load Execute (wordAt u at) k)
 
 -- 01: "per pair the first array's element is tested (5, 1, 4), then the second's"
 abbrev pub pairing : Element → ℕ → ℕ → (Order → Act) → Act
@@ -130,7 +130,7 @@ byteLoaded r = loadElement Byte (r .b) (λ w. fin (λ t. ahead 1 (withB (withA t
 
 abbrev pub byteStored : Registers → Act
 byteStored r =
-    cond (isRegister Execute (wordAt Byte (r .b))) (stop Reply.InRegisters)
+    cond (isRegister Execute (wordAt Byte (r .b))) (stop Refusal.InRegisters)
     (opened Execute Purpose.Both (wordAt Byte (r .b))
     (saving Byte Execute (r .b) (r .a % 256) (fin (λ t. ahead 1 (withB t (along Byte (r .b) 1))))))
 

@@ -4,23 +4,24 @@ use crate::strings::count_at;
 use crate::strings::go_along;
 use crate::strings::is_none;
 use crate::strings::word_at;
-use acts::reads::Got;
 use acts::record::Registers;
 use acts::record::go_ahead;
 use acts::record::set_register;
 use acts::replies::Stepped;
-use acts::replies::Trouble;
 use acts::replies::completed;
 use acts::replies::stop_by;
+use acts::replies::violate;
 use code::codes::Register;
 use maps::pages::Map;
 use maps::pages::Place;
-use maps::pages::Presence;
 use maps::pages::Purpose;
 use maps::pages::is_open;
 use maps::pages::is_register;
 use maps::pages::place_of;
 use maps::pages::presence_of;
+use maps::troubles::Got;
+use maps::troubles::Tested;
+use maps::troubles::Trouble;
 use word::bits::byte_of;
 use word::bits::with_byte;
 ghost use Prim.Native.Nat.{ℕ, _+_, _%_, _<_, _≤_};
@@ -32,7 +33,7 @@ ghost use lib.ListN.{length};
 ghost use Rattle.maps.specs.Pages.{place};
 ghost use Rattle.maps.specs.declared.pages.Place.{Place as Where};
 ghost use Rattle.acts.specs.Record.{withA, withB, ahead};
-ghost use Rattle.acts.specs.Acts.{Act, Performs, exec, fin, done, onOpen, onPresence};
+ghost use Rattle.acts.specs.Acts.{Act, Performs, exec, fin, done, onOpen, onTested};
 ghost use Rattle.strings.specs.Copies.{Run, placeIn, indexOf, placesIn, carried, copies};
 ghost use Rattle.strings.specs.Strings.{wordAt, along, purposeOf, touches, opensAll, presentAll, moving, tested, moved, moveAct};
 
@@ -125,9 +126,9 @@ fn range_present(
     r: Registers,
     pages: &[u16],
     memory: &[u16],
-) -> Presence
+) -> Tested
     requires { ⌜ touches u map at n ≡ false ⌝ }
-    ensures { λ p. ⌜ ((k : Act) → exec (now (pages .entry)) (presentAll u map at n k) r (now (memory .entry)) ≡ onPresence p (exec (now (pages .entry)) k r (now (memory .entry)))) ⌝ }
+    ensures { λ p. ⌜ ((k : Act) → exec (now (pages .entry)) (presentAll u map at n k) r (now (memory .entry)) ≡ onTested p (exec (now (pages .entry)) k r (now (memory .entry)))) ⌝ }
 {
     let mut next = at;
     let mut left = n;
@@ -135,14 +136,14 @@ fn range_present(
         let run = run_of(u, next, left);
         let last = word_at(u, go_along(u, next, run - 1));
         match presence_of(pages, r.wmap, map, last, memory.len()) {
-            Presence::Present => {
+            Tested::Sound => {
                 next = go_along(u, next, run);
                 left -= run;
             }
-            Presence::Absent(page) => return Presence::Absent(page),
+            Tested::Ends(t) => return Tested::Ends(t),
         }
     }
-    Presence::Present
+    Tested::Sound
 }
 
 // Whether both ranges of a move are open, each to its purpose.
@@ -177,13 +178,13 @@ fn ranges_present(
     r: Registers,
     pages: &[u16],
     memory: &[u16],
-) -> Presence
+) -> Tested
     requires { ⌜ (touches u from s n ≡ false) × (touches u to d n ≡ false) ⌝ }
-    ensures { λ p. ⌜ ((k : Act) → exec (now (pages .entry)) (presentAll u from s n (presentAll u to d n k)) r (now (memory .entry)) ≡ onPresence p (exec (now (pages .entry)) k r (now (memory .entry)))) ⌝ }
+    ensures { λ p. ⌜ ((k : Act) → exec (now (pages .entry)) (presentAll u from s n (presentAll u to d n k)) r (now (memory .entry)) ≡ onTested p (exec (now (pages .entry)) k r (now (memory .entry)))) ⌝ }
 {
     match range_present(u, from, s, n, r, pages, memory) {
-        Presence::Present => range_present(u, to, d, n, r, pages, memory),
-        Presence::Absent(page) => Presence::Absent(page),
+        Tested::Sound => range_present(u, to, d, n, r, pages, memory),
+        Tested::Ends(t) => Tested::Ends(t),
     }
 }
 
@@ -206,8 +207,7 @@ fn element_place(
         },
         Place::A => 0,
         Place::B => 0,
-        Place::Closed => 0,
-        Place::Absent(_) => 0,
+        Place::Ends(_) => 0,
     }
 }
 
@@ -363,11 +363,11 @@ fn move_then(
         return stop_by(Trouble::InRegisters, r);
     }
     if !ranges_open(u, from, to, s, d, n, r, pages) {
-        return stop_by(Trouble::Violation, r);
+        return violate(r);
     }
     match ranges_present(u, from, to, s, d, n, r, pages, memory) {
-        Presence::Absent(_) => stop_by(Trouble::Absent, r),
-        Presence::Present => {
+        Tested::Ends(t) => stop_by(t, r),
+        Tested::Sound => {
             copy_elements(u, from, to, s, d, n, r, pages, memory);
             completed(after)
         }

@@ -1,19 +1,17 @@
 // Words and bytes, single and compared in strings, and the masks.
-use acts::reads::Got;
 use acts::reads::get_address;
-use acts::reads::get_word;
 use acts::record::Registers;
 use acts::record::go_ahead;
 use acts::record::go_to;
 use acts::record::set_register;
 use acts::record::skipping;
 use acts::replies::Stepped;
-use acts::replies::Trouble;
 use acts::replies::completed;
 use acts::replies::stop_by;
 use acts::stores::put;
 use code::codes::Bits;
 use code::codes::Register;
+use maps::access::read_word;
 use maps::bytes::byte_word;
 use maps::bytes::is_low_byte;
 use maps::pages::Map;
@@ -21,6 +19,8 @@ use maps::pages::Place;
 use maps::pages::Purpose;
 use maps::pages::is_register;
 use maps::pages::place_of;
+use maps::troubles::Got;
+use maps::troubles::Trouble;
 use word::bits::byte_of;
 use word::bits::clear_bits;
 use word::bits::every_bit_set;
@@ -69,7 +69,7 @@ pub(crate) fn get_element(u: Element, at: u16, r: Registers, pages: &[u16], memo
     if is_register(Map::Execute, holder) {
         return Got::Ends(Trouble::InRegisters);
     }
-    get_word(Map::Execute, holder, r, pages, memory)
+    read_word(pages, memory, r.wmap, Map::Execute, holder, r.a, r.b)
 }
 
 // Whether a count is 0 or has bit 15 set.
@@ -84,7 +84,7 @@ pub(crate) fn count_at(r: Registers, pages: &[u16], memory: &[u16]) -> Got
     ensures { λ g. ⌜ Gives (now (pages .entry)) (count r) r (now (memory .entry)) g ⌝ }
 {
     match get_address(1, r, pages, memory) {
-        Got::Value(at) => get_word(Map::Execute, at, r, pages, memory),
+        Got::Value(at) => read_word(pages, memory, r.wmap, Map::Execute, at, r.a, r.b),
         Got::Ends(t) => Got::Ends(t),
     }
 }
@@ -128,8 +128,7 @@ pub fn store_byte(r: Registers, pages: &[u16], memory: &mut [u16]) -> Stepped
                 set_register(Register::B, r, go_along(Element::Byte, r.b, 1)),
             ))
         }
-        Place::Closed => stop_by(Trouble::Violation, r),
-        Place::Absent(_) => stop_by(Trouble::Absent, r),
+        Place::Ends(t) => stop_by(t, r),
     }
 }
 
@@ -254,8 +253,8 @@ pub fn mask_bits(x: Bits, r: Registers, pages: &[u16], memory: &mut [u16]) -> St
 fn mask_word(x: Bits, m: u16, at: u16, r: Registers, pages: &[u16], memory: &mut [u16]) -> Stepped
     ensures { λ s. ⌜ Performs (now (pages .entry)) (load Map.Execute m (λ mask. load Map.Execute at (λ w. masked x r mask w at))) r (now (memory .entry)) s (now (memory .exit)) ⌝ }
 {
-    match get_word(Map::Execute, m, r, pages, memory) {
-        Got::Value(mask) => match get_word(Map::Execute, at, r, pages, memory) {
+    match read_word(pages, memory, r.wmap, Map::Execute, m, r.a, r.b) {
+        Got::Value(mask) => match read_word(pages, memory, r.wmap, Map::Execute, at, r.a, r.b) {
             Got::Value(w) => put_masked(x, mask, w, at, r, pages, memory),
             Got::Ends(t) => stop_by(t, r),
         },

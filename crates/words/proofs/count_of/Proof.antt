@@ -19,9 +19,6 @@ loop-holds c = omega arith
 cast-class-of : tie.Need-cast-class-of Inv-loop μ-loop
 cast-class-of c = omega arith
 
-class-of-requires : tie.Need-class-of-requires Inv-loop μ-loop
-class-of-requires c κs = search needs
-
 add-n : tie.Need-add-n Inv-loop μ-loop
 add-n c = omega arith
 
@@ -34,20 +31,8 @@ loop-less c = omega arith
 loop-again : tie.Need-loop-again Inv-loop μ-loop
 loop-again c = ⊎-elim (λ w. omega arith) (λ w. omega arith) (c .if1 .came)
 
-returns : tie.Need-returns Inv-loop μ-loop
-returns c = search needs
-
 pub count-of-spec : {M : Type 1} → statement M
 count-of-spec =
     tie.close
-    (tie.spec
-    Inv-loop
-    μ-loop
-    loop-holds
-    cast-class-of
-    class-of-requires
-    add-n
-    add-word
-    loop-less
-    loop-again
-    returns)
+    (tie.spec Inv-loop μ-loop loop-holds cast-class-of (λ c κs. search needs) add-n add-word loop-less loop-again
+    (λ c. search needs))

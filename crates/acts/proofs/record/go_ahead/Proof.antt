@@ -3,11 +3,8 @@ use borrow.Author.Needs.{needs}
 use Rattle.acts.proofs.record.go_ahead.Statement.{statement}
 use Rattle.acts.proofs.record.go_ahead.Tie as tie
 
-past-requires : tie.Need-past-requires
-past-requires c κs = search needs
-
 returns : tie.Need-returns
 returns c = rw (c .past .ensures)
 
 pub go-ahead-spec : {M : Type 1} → statement M
-go-ahead-spec = tie.close (tie.spec past-requires returns)
+go-ahead-spec = tie.close (tie.spec (λ c κs. search needs) returns)

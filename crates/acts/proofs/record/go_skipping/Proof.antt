@@ -3,11 +3,8 @@ use borrow.Author.Needs.{needs}
 use Rattle.acts.proofs.record.go_skipping.Statement.{statement}
 use Rattle.acts.proofs.record.go_skipping.Tie as tie
 
-skipping-requires : tie.Need-skipping-requires
-skipping-requires c κs = search needs
-
 returns : tie.Need-returns
 returns c = rw (c .skipping .ensures)
 
 pub go-skipping-spec : {M : Type 1} → statement M
-go-skipping-spec = tie.close (tie.spec skipping-requires returns)
+go-skipping-spec = tie.close (tie.spec (λ c κs. search needs) returns)

@@ -3,12 +3,6 @@ use borrow.Author.Needs.{needs}
 use Rattle.acts.proofs.record.set_register.Statement.{statement}
 use Rattle.acts.proofs.record.set_register.Tie as tie
 
-enum-told : tie.Need-enum-told
-enum-told c = search needs
-
-enum-told-2 : tie.Need-enum-told-2
-enum-told-2 c = search needs
-
 returns : tie.Need-returns
 returns c = rw (c .enum-told .given .1)
 
@@ -16,4 +10,4 @@ returns-2 : tie.Need-returns-2
 returns-2 c = rw (c .enum-told2 .given .1)
 
 pub set-register-spec : {M : Type 1} → statement M
-set-register-spec = tie.close (tie.spec enum-told enum-told-2 returns returns-2)
+set-register-spec = tie.close (tie.spec (λ c. search needs) (λ c. search needs) returns returns-2)

@@ -6,17 +6,8 @@ use borrow.Author.Needs.{needs}
 use Rattle.acts.proofs.stores.put.Statement.{statement}
 use Rattle.acts.proofs.stores.put.Tie as tie
 
-go-to-requires : tie.Need-go-to-requires
-go-to-requires c κs = search needs
-
-put-last-requires : tie.Need-put-last-requires
-put-last-requires c κs = search needs
-
-same-length : tie.Need-same-length
-same-length c = search needs
-
 returns : tie.Need-returns
 returns c = ends-last _ _ _ _ (λ s. withP s _) _ _ refl refl refl (c .before .before .before .before .go-to .ensures) (c .before .before .put-last .ensures)
 
 pub put-spec : {M : Type 1} → statement M
-put-spec = tie.close (tie.spec go-to-requires put-last-requires same-length returns)
+put-spec = tie.close (tie.spec (λ c κs. search needs) (λ c κs. search needs) (λ c. search needs) returns)

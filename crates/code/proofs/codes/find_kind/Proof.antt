@@ -18,12 +18,6 @@ Inv-loop kind rows wanted i₀ i = (i ≤ 61) × (first (λ e. same (e .kind) ki
 abbrev μ-loop : tie.MeasureT-loop
 μ-loop kind rows wanted i₀ i = 61 - i
 
-table-requires : tie.Need-table-requires Inv-loop μ-loop
-table-requires c κs = search needs
-
-kind-number-requires : tie.Need-kind-number-requires Inv-loop μ-loop
-kind-number-requires c κs = search needs
-
 loop-holds : tie.Need-loop-holds Inv-loop μ-loop
 unfolding findKind
 loop-holds c = (search needs, refl)
@@ -60,16 +54,5 @@ returns-2 c = sym (past _ (c .before .loop .i) (c .before .loop .inv .0) (c .loo
 pub find-kind-spec : {M : Type 1} → statement M
 find-kind-spec =
     tie.close
-    (tie.spec
-    Inv-loop
-    μ-loop
-    table-requires
-    kind-number-requires
-    loop-holds
-    mul-row
-    array-copy-out-row
-    returns
-    add-i
-    loop-less
-    loop-again
-    returns-2)
+    (tie.spec Inv-loop μ-loop (λ c κs. search needs) (λ c κs. search needs) loop-holds mul-row array-copy-out-row
+    returns add-i loop-less loop-again returns-2)

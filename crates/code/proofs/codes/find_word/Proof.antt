@@ -17,9 +17,6 @@ Inv-loop word rows i₀ i = (i ≤ 61) × (first (covers word) (drop i codes.row
 abbrev μ-loop : tie.MeasureT-loop
 μ-loop word rows i₀ i = 61 - i
 
-table-requires : tie.Need-table-requires Inv-loop μ-loop
-table-requires c κs = search needs
-
 loop-holds : tie.Need-loop-holds Inv-loop μ-loop
 unfolding findWord
 loop-holds c = (search needs, refl)
@@ -29,9 +26,6 @@ mul-row c = omega arith
 
 array-copy-out-row : tie.Need-array-copy-out-row Inv-loop μ-loop
 array-copy-out-row c = omega arith
-
-row-holds-requires : tie.Need-row-holds-requires Inv-loop μ-loop
-row-holds-requires c κs = search needs
 
 kind-at-requires : tie.Need-kind-at-requires Inv-loop μ-loop
 kind-at-requires c κs =
@@ -64,17 +58,5 @@ returns-2 c = sym (past _ (c .before .loop .i) (c .before .loop .inv .0) (c .loo
 pub find-word-spec : {M : Type 1} → statement M
 find-word-spec =
     tie.close
-    (tie.spec
-    Inv-loop
-    μ-loop
-    table-requires
-    loop-holds
-    mul-row
-    array-copy-out-row
-    row-holds-requires
-    kind-at-requires
-    returns
-    add-i
-    loop-less
-    loop-again
-    returns-2)
+    (tie.spec Inv-loop μ-loop (λ c κs. search needs) loop-holds mul-row array-copy-out-row (λ c κs. search needs)
+    kind-at-requires returns add-i loop-less loop-again returns-2)

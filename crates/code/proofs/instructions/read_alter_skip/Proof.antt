@@ -4,12 +4,9 @@ use borrow.Author.Needs.{needs}
 use Rattle.code.proofs.instructions.read_alter_skip.Statement.{statement}
 use Rattle.code.proofs.instructions.read_alter_skip.Tie as tie
 
-alter-skip-of-requires : tie.Need-alter-skip-of-requires
-alter-skip-of-requires c κs = search needs
-
 returns : tie.Need-returns
 unfolding alterSkip
 returns c = rw (c .alter-skip-of .ensures, alterSkip)
 
 pub read-alter-skip-spec : {M : Type 1} → statement M
-read-alter-skip-spec = tie.close (tie.spec alter-skip-of-requires returns)
+read-alter-skip-spec = tie.close (tie.spec (λ c κs. search needs) returns)

@@ -4,24 +4,6 @@ use borrow.Author.Needs.{needs}
 use Rattle.code.proofs.instructions.read_extended.Statement.{statement}
 use Rattle.code.proofs.instructions.read_extended.Tie as tie
 
-find-word-requires : tie.Need-find-word-requires
-find-word-requires c κs = search needs
-
-enum-known-entry : tie.Need-enum-known-entry
-enum-known-entry c = search needs
-
-enum-known-kind : tie.Need-enum-known-kind
-enum-known-kind c = search needs
-
-enum-known-kind-2 : tie.Need-enum-known-kind-2
-enum-known-kind-2 c = search needs
-
-places-of-requires : tie.Need-places-of-requires
-places-of-requires c κs = search needs
-
-enum-told : tie.Need-enum-told
-enum-told c = search needs
-
 returns : tie.Need-returns
 unfolding extended
 returns c = rw (← c .before .before .before .before .before .before .find-word .ensures, c .before .before .before .before .entry .given .1, extended, c .before .kind .given .1)
@@ -37,13 +19,5 @@ returns-3 c = rw (← c .before .before .find-word .ensures, c .enum-told .given
 pub read-extended-spec : {M : Type 1} → statement M
 read-extended-spec =
     tie.close
-    (tie.spec
-    find-word-requires
-    enum-known-entry
-    enum-known-kind
-    enum-known-kind-2
-    places-of-requires
-    enum-told
-    returns
-    returns-2
-    returns-3)
+    (tie.spec (λ c κs. search needs) (λ c. search needs) (λ c. search needs) (λ c. search needs) (λ c κs. search needs)
+    (λ c. search needs) returns returns-2 returns-3)

@@ -4,12 +4,9 @@ use borrow.Author.Needs.{needs}
 use Rattle.code.proofs.instructions.read_input_output.Statement.{statement}
 use Rattle.code.proofs.instructions.read_input_output.Tie as tie
 
-io-at-requires : tie.Need-io-at-requires
-io-at-requires c κs = search needs
-
 returns : tie.Need-returns
 unfolding inputOutput
 returns c = rw (c .io-at .ensures, inputOutput)
 
 pub read-input-output-spec : {M : Type 1} → statement M
-read-input-output-spec = tie.close (tie.spec io-at-requires returns)
+read-input-output-spec = tie.close (tie.spec (λ c κs. search needs) returns)

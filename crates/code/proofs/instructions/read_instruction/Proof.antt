@@ -5,36 +5,21 @@ use borrow.Author.Needs.{needs}
 use Rattle.code.proofs.instructions.read_instruction.Statement.{statement}
 use Rattle.code.proofs.instructions.read_instruction.Tie as tie
 
-read-memory-reference-requires : tie.Need-read-memory-reference-requires
-read-memory-reference-requires c κs = search needs
-
 returns : tie.Need-returns
 unfolding reading
 returns c = rw (← c .read-memory-reference .ensures, reading, le-leb _ _ (c .before .if1 .taken))
-
-read-input-output-requires : tie.Need-read-input-output-requires
-read-input-output-requires c κs = search needs
 
 returns-2 : tie.Need-returns-2
 unfolding reading
 returns-2 c = rw (reading, lt-leb _ _ (c .before .before .before .if1 .left), eq-eqb _ _ (c .before .before .if2 .taken), eq-eqb _ _ (c .before .if3 .taken)) (c .read-input-output .ensures)
 
-read-extended-requires : tie.Need-read-extended-requires
-read-extended-requires c κs = search needs
-
 returns-3 : tie.Need-returns-3
 unfolding reading
 returns-3 c = rw (reading, lt-leb _ _ (c .before .before .before .if1 .left), eq-eqb _ _ (c .before .before .if2 .taken), ne-eqb _ _ (c .before .if3 .left)) (c .read-extended .ensures)
 
-read-alter-skip-requires : tie.Need-read-alter-skip-requires
-read-alter-skip-requires c κs = search needs
-
 returns-4 : tie.Need-returns-4
 unfolding reading
 returns-4 c = rw (reading, lt-leb _ _ (c .before .before .before .if1 .left), ne-eqb _ _ (c .before .before .if2 .left), eq-eqb _ _ (c .before .if4 .taken)) (c .read-alter-skip .ensures)
-
-read-shift-rotate-requires : tie.Need-read-shift-rotate-requires
-read-shift-rotate-requires c κs = search needs
 
 returns-5 : tie.Need-returns-5
 unfolding reading
@@ -43,14 +28,5 @@ returns-5 c = rw (reading, lt-leb _ _ (c .before .before .before .if1 .left), ne
 pub read-instruction-spec : {M : Type 1} → statement M
 read-instruction-spec =
     tie.close
-    (tie.spec
-    read-memory-reference-requires
-    returns
-    read-input-output-requires
-    returns-2
-    read-extended-requires
-    returns-3
-    read-alter-skip-requires
-    returns-4
-    read-shift-rotate-requires
-    returns-5)
+    (tie.spec (λ c κs. search needs) returns (λ c κs. search needs) returns-2 (λ c κs. search needs) returns-3
+    (λ c κs. search needs) returns-4 (λ c κs. search needs) returns-5)

@@ -4,12 +4,9 @@ use borrow.Author.Needs.{needs}
 use Rattle.code.proofs.instructions.read_shift_rotate.Statement.{statement}
 use Rattle.code.proofs.instructions.read_shift_rotate.Tie as tie
 
-shift-rotate-of-requires : tie.Need-shift-rotate-of-requires
-shift-rotate-of-requires c κs = search needs
-
 returns : tie.Need-returns
 unfolding shiftRotate
 returns c = rw (c .shift-rotate-of .ensures, shiftRotate)
 
 pub read-shift-rotate-spec : {M : Type 1} → statement M
-read-shift-rotate-spec = tie.close (tie.spec shift-rotate-of-requires returns)
+read-shift-rotate-spec = tie.close (tie.spec (λ c κs. search needs) returns)

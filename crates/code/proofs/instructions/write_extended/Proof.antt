@@ -4,15 +4,6 @@ use borrow.Author.Needs.{needs}
 use Rattle.code.proofs.instructions.write_extended.Statement.{statement}
 use Rattle.code.proofs.instructions.write_extended.Tie as tie
 
-find-kind-requires : tie.Need-find-kind-requires
-find-kind-requires c κs = search needs
-
-enum-known-entry : tie.Need-enum-known-entry
-enum-known-entry c = search needs
-
-enum-told : tie.Need-enum-told
-enum-told c = search needs
-
 returns : tie.Need-returns
 unfolding writeExtended
 returns c = rw (← c .before .before .before .find-kind .ensures, c .before .entry .given .1, writeExtended)
@@ -23,4 +14,4 @@ returns-2 c = rw (← c .before .before .find-kind .ensures, c .enum-told .given
 
 pub write-extended-spec : {M : Type 1} → statement M
 write-extended-spec =
-    tie.close (tie.spec find-kind-requires enum-known-entry enum-told returns returns-2)
+    tie.close (tie.spec (λ c κs. search needs) (λ c. search needs) (λ c. search needs) returns returns-2)

@@ -16,17 +16,8 @@ returns-2 : tie.Need-returns-2
 unfolding writeLongShift
 returns-2 c = rw (ne-eqb _ _ (c .before .if1 .left), lt-ltb _ _ (c .if2 .taken), writeLongShift)
 
-find-kind-requires : tie.Need-find-kind-requires
-find-kind-requires c κs = search needs
-
-enum-known-entry : tie.Need-enum-known-entry
-enum-known-entry c = search needs
-
 add-t9 : tie.Need-add-t9
 add-t9 c = omega (arith, code-small _ _ (sym (c .before .before .before .before .find-kind .ensures) ∙ c .before .before .entry .given .1))
-
-enum-told : tie.Need-enum-told
-enum-told c = search needs
 
 returns-3 : tie.Need-returns-3
 unfolding writeLongShift
@@ -39,12 +30,5 @@ returns-4 c = rw (ne-eqb _ _ (c .before .before .before .before .if1 .left), le-
 pub write-long-shift-spec : {M : Type 1} → statement M
 write-long-shift-spec =
     tie.close
-    (tie.spec
-    returns
-    returns-2
-    find-kind-requires
-    enum-known-entry
-    add-t9
-    enum-told
-    returns-3
+    (tie.spec returns returns-2 (λ c κs. search needs) (λ c. search needs) add-t9 (λ c. search needs) returns-3
     returns-4)

@@ -5,12 +5,6 @@ use borrow.Author.Needs.{needs}
 use Rattle.code.proofs.instructions.write_not_built.Statement.{statement}
 use Rattle.code.proofs.instructions.write_not_built.Tie as tie
 
-read-instruction-requires : tie.Need-read-instruction-requires
-read-instruction-requires c κs = search needs
-
-is-built-requires : tie.Need-is-built-requires
-is-built-requires c κs = search needs
-
 returns : tie.Need-returns
 unfolding writeNotBuilt
 returns c = rw (writeNotBuilt, lt-ltb _ _ (c .before .before .before .fits .word .fits), ← c .before .before .read-instruction .ensures, ← c .before .is-built .ensures, c .if1 .taken)
@@ -21,4 +15,4 @@ returns-2 c = rw (writeNotBuilt, lt-ltb _ _ (c .before .before .before .fits .wo
 
 pub write-not-built-spec : {M : Type 1} → statement M
 write-not-built-spec =
-    tie.close (tie.spec read-instruction-requires is-built-requires returns returns-2)
+    tie.close (tie.spec (λ c κs. search needs) (λ c κs. search needs) returns returns-2)

@@ -3,18 +3,9 @@ use borrow.Author.Needs.{needs}
 use Rattle.effects.proofs.group.copy_from_index.Statement.{statement}
 use Rattle.effects.proofs.group.copy_from_index.Tie as tie
 
-index-requires : tie.Need-index-requires
-index-requires c κs = search needs
-
-set-register-requires : tie.Need-set-register-requires
-set-register-requires c κs = search needs
-
-go-ahead-requires : tie.Need-go-ahead-requires
-go-ahead-requires c κs = search needs
-
 returns : tie.Need-returns
 returns c = rw (c .go-ahead .ensures, c .before .set-register .ensures, c .before .before .index .ensures)
 
 pub copy-from-index-spec : {M : Type 1} → statement M
 copy-from-index-spec =
-    tie.close (tie.spec index-requires set-register-requires go-ahead-requires returns)
+    tie.close (tie.spec (λ c κs. search needs) (λ c κs. search needs) (λ c κs. search needs) returns)

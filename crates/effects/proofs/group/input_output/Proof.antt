@@ -7,28 +7,13 @@ use borrow.Author.Needs.{needs}
 use Rattle.effects.proofs.group.input_output.Statement.{statement}
 use Rattle.effects.proofs.group.input_output.Tie as tie
 
-high-bit-requires : tie.Need-high-bit-requires
-high-bit-requires c κs = search needs
-
-is-halt-requires : tie.Need-is-halt-requires
-is-halt-requires c κs = search needs
-
-stop-by-requires : tie.Need-stop-by-requires
-stop-by-requires c κs = search needs
-
 returns : tie.Need-returns
 unfolding exec ioAct
-returns c = rw (← c .before .before .before .high-bit .ensures, ← c .before .before .is-halt .ensures, c .before .if1 .taken, c .stop-by .ensures) (λ pages m. record { outcome = refl; memory = refl })
-
-panel-requires : tie.Need-panel-requires
-panel-requires c κs = search needs
+returns c = rw (← c .before .before .before .high-bit .ensures, ← c .before .before .is-halt .ensures, c .before .if1 .taken, c .violate .ensures) (λ pages m. record { outcome = refl; memory = refl })
 
 returns-2 : tie.Need-returns-2
 unfolding exec ioAct
 returns-2 c = rw (← c .before .before .before .before .high-bit .ensures, ← c .before .before .before .is-halt .ensures, c .before .before .if1 .left, c .before .if2 .taken) (c .panel .ensures)
-
-refuse-requires : tie.Need-refuse-requires
-refuse-requires c κs = search needs
 
 returns-3 : tie.Need-returns-3
 unfolding exec ioAct
@@ -37,12 +22,5 @@ returns-3 c = rw (← c .before .before .before .before .high-bit .ensures, ← 
 pub input-output-spec : {M : Type 1} → statement M
 input-output-spec =
     tie.close
-    (tie.spec
-    high-bit-requires
-    is-halt-requires
-    stop-by-requires
-    returns
-    panel-requires
-    returns-2
-    refuse-requires
-    returns-3)
+    (tie.spec (λ c κs. search needs) (λ c κs. search needs) (λ c κs. search needs) returns (λ c κs. search needs)
+    returns-2 (λ c κs. search needs) returns-3)

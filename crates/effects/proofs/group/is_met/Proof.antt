@@ -4,15 +4,6 @@ use borrow.Author.Needs.{needs}
 use Rattle.effects.proofs.group.is_met.Statement.{statement}
 use Rattle.effects.proofs.group.is_met.Tie as tie
 
-high-bit-requires : tie.Need-high-bit-requires
-high-bit-requires c κs = search needs
-
-low-bit-requires : tie.Need-low-bit-requires
-low-bit-requires c κs = search needs
-
-pair-met-requires : tie.Need-pair-met-requires
-pair-met-requires c κs = search needs
-
 returns : tie.Need-returns
 unfolding alterSkips
 returns c = rw (c .before .before .before .before .before .before .if1 .taken, c .before .before .before .before .before .pair-met .ensures, c .before .before .before .before .before .before .before .low-bit .ensures, c .before .before .before .before .before .before .before .before .high-bit .ensures)
@@ -23,4 +14,4 @@ returns-2 c = rw (c .before .before .before .before .if1 .left, c .before .befor
 
 pub is-met-spec : {M : Type 1} → statement M
 is-met-spec =
-    tie.close (tie.spec high-bit-requires low-bit-requires pair-met-requires returns returns-2)
+    tie.close (tie.spec (λ c κs. search needs) (λ c κs. search needs) (λ c κs. search needs) returns returns-2)

@@ -4,15 +4,9 @@ use borrow.Author.Needs.{needs}
 use Rattle.effects.proofs.group.long_rotate.Statement.{statement}
 use Rattle.effects.proofs.group.long_rotate.Tie as tie
 
-long-shift-requires : tie.Need-long-shift-requires
-long-shift-requires c κs = search needs
-
-go-ahead-requires : tie.Need-go-ahead-requires
-go-ahead-requires c κs = search needs
-
 returns : tie.Need-returns
 unfolding longRotated
 returns c = rw (c .go-ahead .ensures, c .before .long-shift .ensures)
 
 pub long-rotate-spec : {M : Type 1} → statement M
-long-rotate-spec = tie.close (tie.spec long-shift-requires go-ahead-requires returns)
+long-rotate-spec = tie.close (tie.spec (λ c κs. search needs) (λ c κs. search needs) returns)

@@ -6,88 +6,13 @@ use borrow.Author.Needs.{needs}
 use Rattle.effects.proofs.group.panel.Statement.{statement}
 use Rattle.effects.proofs.group.panel.Tie as tie
 
-enum-told : tie.Need-enum-told
-enum-told c = search needs
-
-refuse-requires : tie.Need-refuse-requires
-refuse-requires c κs = search needs
-
-enum-told-2 : tie.Need-enum-told-2
-enum-told-2 c = search needs
-
-set-overflow-requires : tie.Need-set-overflow-requires
-set-overflow-requires c κs = search needs
-
-completed-requires : tie.Need-completed-requires
-completed-requires c κs = search needs
-
-enum-told-3 : tie.Need-enum-told-3
-enum-told-3 c = search needs
-
-test-overflow-requires : tie.Need-test-overflow-requires
-test-overflow-requires c κs = search needs
-
-completed-requires-2 : tie.Need-completed-requires-2
-completed-requires-2 c κs = search needs
-
-enum-told-4 : tie.Need-enum-told-4
-enum-told-4 c = search needs
-
-test-overflow-requires-2 : tie.Need-test-overflow-requires-2
-test-overflow-requires-2 c κs = search needs
-
-completed-requires-3 : tie.Need-completed-requires-3
-completed-requires-3 c κs = search needs
-
-enum-told-5 : tie.Need-enum-told-5
-enum-told-5 c = search needs
-
-refuse-requires-2 : tie.Need-refuse-requires-2
-refuse-requires-2 c κs = search needs
-
-enum-told-6 : tie.Need-enum-told-6
-enum-told-6 c = search needs
-
-refuse-requires-3 : tie.Need-refuse-requires-3
-refuse-requires-3 c κs = search needs
-
 returns : tie.Need-returns
 unfolding exec panelAct
 returns c = rw (c .before .before .enum-told6 .given .1, c .before .if1 .taken, c .refuse3 .ensures) (λ pages m. record { outcome = refl; memory = refl })
 
-register-of-requires : tie.Need-register-of-requires
-register-of-requires c κs = search needs
-
-take-switches-requires : tie.Need-take-switches-requires
-take-switches-requires c κs = search needs
-
-completed-requires-4 : tie.Need-completed-requires-4
-completed-requires-4 c κs = search needs
-
-enum-told-7 : tie.Need-enum-told-7
-enum-told-7 c = search needs
-
-refuse-requires-4 : tie.Need-refuse-requires-4
-refuse-requires-4 c κs = search needs
-
 returns-2 : tie.Need-returns-2
 unfolding exec panelAct
 returns-2 c = rw (c .before .before .enum-told7 .given .1, c .before .if2 .taken, c .refuse4 .ensures) (λ pages m. record { outcome = refl; memory = refl })
-
-register-of-requires-2 : tie.Need-register-of-requires-2
-register-of-requires-2 c κs = search needs
-
-put-lights-requires : tie.Need-put-lights-requires
-put-lights-requires c κs = search needs
-
-completed-requires-5 : tie.Need-completed-requires-5
-completed-requires-5 c κs = search needs
-
-enum-told-8 : tie.Need-enum-told-8
-enum-told-8 c = search needs
-
-refuse-requires-5 : tie.Need-refuse-requires-5
-refuse-requires-5 c κs = search needs
 
 returns-3 : tie.Need-returns-3
 unfolding exec panelAct
@@ -124,39 +49,10 @@ returns-10 c = rw (c .before .enum-told8 .given .1, c .refuse5 .ensures) (λ pag
 pub panel-spec : {M : Type 1} → statement M
 panel-spec =
     tie.close
-    (tie.spec
-    enum-told
-    refuse-requires
-    enum-told-2
-    set-overflow-requires
-    completed-requires
-    enum-told-3
-    test-overflow-requires
-    completed-requires-2
-    enum-told-4
-    test-overflow-requires-2
-    completed-requires-3
-    enum-told-5
-    refuse-requires-2
-    enum-told-6
-    refuse-requires-3
-    returns
-    register-of-requires
-    take-switches-requires
-    completed-requires-4
-    enum-told-7
-    refuse-requires-4
-    returns-2
-    register-of-requires-2
-    put-lights-requires
-    completed-requires-5
-    enum-told-8
-    refuse-requires-5
-    returns-3
-    returns-4
-    returns-5
-    returns-6
-    returns-7
-    returns-8
-    returns-9
-    returns-10)
+    (tie.spec (λ c. search needs) (λ c κs. search needs) (λ c. search needs) (λ c κs. search needs)
+    (λ c κs. search needs) (λ c. search needs) (λ c κs. search needs) (λ c κs. search needs) (λ c. search needs)
+    (λ c κs. search needs) (λ c κs. search needs) (λ c. search needs) (λ c κs. search needs) (λ c. search needs)
+    (λ c κs. search needs) returns (λ c κs. search needs) (λ c κs. search needs) (λ c κs. search needs)
+    (λ c. search needs) (λ c κs. search needs) returns-2 (λ c κs. search needs) (λ c κs. search needs)
+    (λ c κs. search needs) (λ c. search needs) (λ c κs. search needs) returns-3 returns-4 returns-5 returns-6 returns-7
+    returns-8 returns-9 returns-10)

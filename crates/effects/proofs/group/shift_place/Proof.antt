@@ -3,17 +3,11 @@ use borrow.Author.Needs.{needs}
 use Rattle.effects.proofs.group.shift_place.Statement.{statement}
 use Rattle.effects.proofs.group.shift_place.Tie as tie
 
-shift-requires : tie.Need-shift-requires
-shift-requires c κs = search needs
-
 returns : tie.Need-returns
 returns c = rw (c .before .if1 .taken, c .shift .ensures)
-
-pass-requires : tie.Need-pass-requires
-pass-requires c κs = search needs
 
 returns-2 : tie.Need-returns-2
 returns-2 c = rw (c .before .if1 .left, c .pass .ensures)
 
 pub shift-place-spec : {M : Type 1} → statement M
-shift-place-spec = tie.close (tie.spec shift-requires returns pass-requires returns-2)
+shift-place-spec = tie.close (tie.spec (λ c κs. search needs) returns (λ c κs. search needs) returns-2)

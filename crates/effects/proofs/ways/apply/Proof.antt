@@ -41,120 +41,6 @@ module _ (w n : ℕ) (r : Registers) {taking : Taking} {p s : Registers} where
       → s ≡ taken taking w n r
   divides told made put gone = rw (gone, put, made, told) refl
 
-enum-told : tie.Need-enum-told
-enum-told c = search needs
-
-set-register-requires : tie.Need-set-register-requires
-set-register-requires c κs = search needs
-
-go-ahead-requires : tie.Need-go-ahead-requires
-go-ahead-requires c κs = search needs
-
-enum-told-2 : tie.Need-enum-told-2
-enum-told-2 c = search needs
-
-set-register-requires-2 : tie.Need-set-register-requires-2
-set-register-requires-2 c κs = search needs
-
-go-ahead-requires-2 : tie.Need-go-ahead-requires-2
-go-ahead-requires-2 c κs = search needs
-
-enum-told-3 : tie.Need-enum-told-3
-enum-told-3 c = search needs
-
-set-register-requires-3 : tie.Need-set-register-requires-3
-set-register-requires-3 c κs = search needs
-
-go-ahead-requires-3 : tie.Need-go-ahead-requires-3
-go-ahead-requires-3 c κs = search needs
-
-enum-known-taking : tie.Need-enum-known-taking
-enum-known-taking c = search needs
-
-register-requires : tie.Need-register-requires
-register-requires c κs = search needs
-
-add-requires : tie.Need-add-requires
-add-requires c κs = search needs
-
-set-flags-requires : tie.Need-set-flags-requires
-set-flags-requires c κs = search needs
-
-set-register-requires-4 : tie.Need-set-register-requires-4
-set-register-requires-4 c κs = search needs
-
-go-ahead-requires-4 : tie.Need-go-ahead-requires-4
-go-ahead-requires-4 c κs = search needs
-
-enum-known-taking-2 : tie.Need-enum-known-taking-2
-enum-known-taking-2 c = search needs
-
-register-requires-2 : tie.Need-register-requires-2
-register-requires-2 c κs = search needs
-
-go-skipping-requires : tie.Need-go-skipping-requires
-go-skipping-requires c κs = search needs
-
-enum-known-taking-3 : tie.Need-enum-known-taking-3
-enum-known-taking-3 c = search needs
-
-set-register-requires-5 : tie.Need-set-register-requires-5
-set-register-requires-5 c κs = search needs
-
-go-ahead-requires-5 : tie.Need-go-ahead-requires-5
-go-ahead-requires-5 c κs = search needs
-
-enum-told-4 : tie.Need-enum-told-4
-enum-told-4 c = search needs
-
-multiply-requires : tie.Need-multiply-requires
-multiply-requires c κs = search needs
-
-take-product-requires : tie.Need-take-product-requires
-take-product-requires c κs = search needs
-
-go-ahead-requires-6 : tie.Need-go-ahead-requires-6
-go-ahead-requires-6 c κs = search needs
-
-enum-told-5 : tie.Need-enum-told-5
-enum-told-5 c = search needs
-
-divide-requires : tie.Need-divide-requires
-divide-requires c κs = search needs
-
-take-quotient-requires : tie.Need-take-quotient-requires
-take-quotient-requires c κs = search needs
-
-go-ahead-requires-7 : tie.Need-go-ahead-requires-7
-go-ahead-requires-7 c κs = search needs
-
-enum-known-taking-4 : tie.Need-enum-known-taking-4
-enum-known-taking-4 c = search needs
-
-set-index-requires : tie.Need-set-index-requires
-set-index-requires c κs = search needs
-
-go-ahead-requires-8 : tie.Need-go-ahead-requires-8
-go-ahead-requires-8 c κs = search needs
-
-enum-known-taking-5 : tie.Need-enum-known-taking-5
-enum-known-taking-5 c = search needs
-
-index-requires : tie.Need-index-requires
-index-requires c κs = search needs
-
-add-requires-2 : tie.Need-add-requires-2
-add-requires-2 c κs = search needs
-
-set-flags-requires-2 : tie.Need-set-flags-requires-2
-set-flags-requires-2 c κs = search needs
-
-set-index-requires-2 : tie.Need-set-index-requires-2
-set-index-requires-2 c κs = search needs
-
-go-ahead-requires-9 : tie.Need-go-ahead-requires-9
-go-ahead-requires-9 c κs = search needs
-
 returns : tie.Need-returns
 returns c = replaced _ _ _ _ _ (c .before .before .before .enum-told .given .1) (c .before .set-register .ensures) (c .go-ahead .ensures) refl
 
@@ -188,52 +74,12 @@ returns-10 c = index-added _ _ _ _ (c .before .before .before .before .before .b
 pub apply-spec : {M : Type 1} → statement M
 apply-spec =
     tie.close
-    (tie.spec
-    enum-told
-    set-register-requires
-    go-ahead-requires
-    enum-told-2
-    set-register-requires-2
-    go-ahead-requires-2
-    enum-told-3
-    set-register-requires-3
-    go-ahead-requires-3
-    enum-known-taking
-    register-requires
-    add-requires
-    set-flags-requires
-    set-register-requires-4
-    go-ahead-requires-4
-    enum-known-taking-2
-    register-requires-2
-    go-skipping-requires
-    enum-known-taking-3
-    set-register-requires-5
-    go-ahead-requires-5
-    enum-told-4
-    multiply-requires
-    take-product-requires
-    go-ahead-requires-6
-    enum-told-5
-    divide-requires
-    take-quotient-requires
-    go-ahead-requires-7
-    enum-known-taking-4
-    set-index-requires
-    go-ahead-requires-8
-    enum-known-taking-5
-    index-requires
-    add-requires-2
-    set-flags-requires-2
-    set-index-requires-2
-    go-ahead-requires-9
-    returns
-    returns-2
-    returns-3
-    returns-4
-    returns-5
-    returns-6
-    returns-7
-    returns-8
-    returns-9
-    returns-10)
+    (tie.spec (λ c. search needs) (λ c κs. search needs) (λ c κs. search needs) (λ c. search needs)
+    (λ c κs. search needs) (λ c κs. search needs) (λ c. search needs) (λ c κs. search needs) (λ c κs. search needs)
+    (λ c. search needs) (λ c κs. search needs) (λ c κs. search needs) (λ c κs. search needs) (λ c κs. search needs)
+    (λ c κs. search needs) (λ c. search needs) (λ c κs. search needs) (λ c κs. search needs) (λ c. search needs)
+    (λ c κs. search needs) (λ c κs. search needs) (λ c. search needs) (λ c κs. search needs) (λ c κs. search needs)
+    (λ c κs. search needs) (λ c. search needs) (λ c κs. search needs) (λ c κs. search needs) (λ c κs. search needs)
+    (λ c. search needs) (λ c κs. search needs) (λ c κs. search needs) (λ c. search needs) (λ c κs. search needs)
+    (λ c κs. search needs) (λ c κs. search needs) (λ c κs. search needs) (λ c κs. search needs) returns returns-2
+    returns-3 returns-4 returns-5 returns-6 returns-7 returns-8 returns-9 returns-10)

@@ -7,41 +7,11 @@ use borrow.Author.Needs.{needs}
 use Rattle.effects.proofs.ways.store_double.Statement.{statement}
 use Rattle.effects.proofs.ways.store_double.Tie as tie
 
-past-requires : tie.Need-past-requires
-past-requires c κs = search needs
-
-place-of-requires : tie.Need-place-of-requires
-place-of-requires c κs = search needs
-
-place-of-requires-2 : tie.Need-place-of-requires-2
-place-of-requires-2 c κs = search needs
-
-test-places-requires : tie.Need-test-places-requires
-test-places-requires c κs = search needs
-
-enum-told : tie.Need-enum-told
-enum-told c = search needs
-
-go-ahead-requires : tie.Need-go-ahead-requires
-go-ahead-requires c κs = search needs
-
 store-at-requires : tie.Need-store-at-requires
 store-at-requires c κs = λ i e. place-below _ _ _ _ _ _ _ (sym (c .before .before .before .before .before .before .place-of .ensures) ∙ e)
 
 store-at-requires-2 : tie.Need-store-at-requires-2
 store-at-requires-2 c κs = λ i e. rw (c .before .before .before .store-at .ensures .1, kept) (place-below _ _ _ _ _ _ _ (sym (c .before .before .before .before .before .before .before .before .before .place-of2 .ensures) ∙ e))
-
-completed-requires : tie.Need-completed-requires
-completed-requires c κs = search needs
-
-enum-known-t : tie.Need-enum-known-t
-enum-known-t c = search needs
-
-stop-by-requires : tie.Need-stop-by-requires
-stop-by-requires c κs = search needs
-
-same-length : tie.Need-same-length
-same-length c = search needs
 
 returns : tie.Need-returns
 returns c = ends-both _ _ _ _ _ _ (c .before .before .before .before .before .before .before .before .before .before .before .before .before .before .before .past .ensures) (c .before .before .before .before .before .before .before .before .before .before .before .before .before .before .place-of .ensures) (c .before .before .before .before .before .before .before .before .before .before .before .before .before .place-of2 .ensures) (c .before .before .before .before .before .before .before .before .before .before .before .before .test-places .ensures) (rw (c .before .before .before .before .before .before .before .before .before .before .enum-told .given .1) (record { outcome = rw (c .completed .ensures, c .before .before .before .store-at2 .ensures .0, c .before .before .before .before .before .before .before .store-at .ensures .0, c .before .before .before .before .before .before .before .before .before .go-ahead .ensures); memory = rw (c .before .before .before .store-at2 .ensures .1, c .before .before .before .before .before .before .before .store-at .ensures .1) }))
@@ -52,18 +22,6 @@ returns-2 c = ends-both _ _ _ _ _ _ (c .before .before .before .before .before .
 pub store-double-spec : {M : Type 1} → statement M
 store-double-spec =
     tie.close
-    (tie.spec
-    past-requires
-    place-of-requires
-    place-of-requires-2
-    test-places-requires
-    enum-told
-    go-ahead-requires
-    store-at-requires
-    store-at-requires-2
-    completed-requires
-    enum-known-t
-    stop-by-requires
-    same-length
-    returns
-    returns-2)
+    (tie.spec (λ c κs. search needs) (λ c κs. search needs) (λ c κs. search needs) (λ c κs. search needs)
+    (λ c. search needs) (λ c κs. search needs) store-at-requires store-at-requires-2 (λ c κs. search needs)
+    (λ c. search needs) (λ c κs. search needs) (λ c. search needs) returns returns-2)

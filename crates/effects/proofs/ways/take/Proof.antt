@@ -1,45 +1,24 @@
 -- `ways::take` meets its contract: by what its calls ensure. Assumes nothing.
 use mathlib.Core.Path.{refl}
-use Rattle.acts.specs.Acts.{exec}
-use Rattle.acts.proofs.Operands.{had-value, had-stop}
+use Rattle.acts.specs.Acts.{fin, exec}
+use Rattle.effects.specs.Ways.{taken}
+use Rattle.acts.proofs.Operands.{reads, had-on, had-stop}
 use borrow.Author.Needs.{needs}
 use Rattle.effects.proofs.ways.take.Statement.{statement}
 use Rattle.effects.proofs.ways.take.Tie as tie
 
-get-word-requires : tie.Need-get-word-requires
-get-word-requires c κs = search needs
-
-enum-known-w : tie.Need-enum-known-w
-enum-known-w c = search needs
-
-apply-requires : tie.Need-apply-requires
-apply-requires c κs = search needs
-
-completed-requires : tie.Need-completed-requires
-completed-requires c κs = search needs
-
-enum-known-t : tie.Need-enum-known-t
-enum-known-t c = search needs
-
-stop-by-requires : tie.Need-stop-by-requires
-stop-by-requires c κs = search needs
-
 returns : tie.Need-returns
 unfolding exec
-returns c = rw (had-value (c .before .before .before .before .before .get-word .ensures) (c .before .before .before .w .given .1) _, c .completed .ensures, c .before .apply .ensures) (record { outcome = refl; memory = refl })
+returns c =
+    let args = c .before .before .before .before .before .before .before .before .args in
+    had-on (reads (c .before .before .before .before .before .read-word .ensures)) (c .before .before .before .w .given .1)
+    (λ w. fin (taken (args .taking) w (args .words))) (rw (c .completed .ensures, c .before .apply .ensures) (record { outcome = refl; memory = refl }))
 
 returns-2 : tie.Need-returns-2
-returns-2 c = had-stop (c .before .before .before .before .get-word .ensures) (c .before .before .t .given .1) (c .stop-by .ensures) _
+returns-2 c = had-stop (reads (c .before .before .before .before .read-word .ensures)) (c .before .before .t .given .1) (c .stop-by .ensures) _
 
 pub take-spec : {M : Type 1} → statement M
 take-spec =
     tie.close
-    (tie.spec
-    get-word-requires
-    enum-known-w
-    apply-requires
-    completed-requires
-    enum-known-t
-    stop-by-requires
-    returns
-    returns-2)
+    (tie.spec (λ c κs. search needs) (λ c. search needs) (λ c κs. search needs) (λ c κs. search needs)
+    (λ c. search needs) (λ c κs. search needs) returns returns-2)

@@ -3,59 +3,11 @@ use borrow.Author.Needs.{needs}
 use Rattle.effects.proofs.ways.test_places.Statement.{statement}
 use Rattle.effects.proofs.ways.test_places.Tie as tie
 
-enum-told : tie.Need-enum-told
-enum-told c = search needs
-
-test-place-requires : tie.Need-test-place-requires
-test-place-requires c κs = search needs
-
-enum-told-2 : tie.Need-enum-told-2
-enum-told-2 c = search needs
-
-test-place-requires-2 : tie.Need-test-place-requires-2
-test-place-requires-2 c κs = search needs
-
-enum-told-3 : tie.Need-enum-told-3
-enum-told-3 c = search needs
-
-test-place-requires-3 : tie.Need-test-place-requires-3
-test-place-requires-3 c κs = search needs
-
-enum-told-4 : tie.Need-enum-told-4
-enum-told-4 c = search needs
-
-enum-told-5 : tie.Need-enum-told-5
-enum-told-5 c = search needs
-
-returns : tie.Need-returns
-returns c = search needs
-
-returns-2 : tie.Need-returns-2
-returns-2 c = search needs
-
-returns-3 : tie.Need-returns-3
-returns-3 c = search needs
-
 returns-4 : tie.Need-returns-4
-returns-4 c = rw (c .enum-told4 .given .1)
-
-returns-5 : tie.Need-returns-5
-returns-5 c = rw (c .enum-told5 .given .1)
+returns-4 c = rw (c .before .first .given .1)
 
 pub test-places-spec : {M : Type 1} → statement M
 test-places-spec =
     tie.close
-    (tie.spec
-    enum-told
-    test-place-requires
-    enum-told-2
-    test-place-requires-2
-    enum-told-3
-    test-place-requires-3
-    enum-told-4
-    enum-told-5
-    returns
-    returns-2
-    returns-3
-    returns-4
-    returns-5)
+    (tie.spec (λ c. search needs) (λ c κs. search needs) (λ c. search needs) (λ c κs. search needs) (λ c. search needs)
+    (λ c κs. search needs) (λ c. search needs) (λ c. search needs) (λ c. search needs) (λ c. search needs) returns-4)

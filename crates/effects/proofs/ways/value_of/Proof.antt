@@ -3,18 +3,6 @@ use borrow.Author.Needs.{needs}
 use Rattle.effects.proofs.ways.value_of.Statement.{statement}
 use Rattle.effects.proofs.ways.value_of.Tie as tie
 
-enum-known-source : tie.Need-enum-known-source
-enum-known-source c = search needs
-
-register-requires : tie.Need-register-requires
-register-requires c κs = search needs
-
-enum-known-source-2 : tie.Need-enum-known-source-2
-enum-known-source-2 c = search needs
-
-index-requires : tie.Need-index-requires
-index-requires c κs = search needs
-
 returns : tie.Need-returns
 returns c = rw (c .before .before .source .given .1, c .register .ensures)
 
@@ -24,10 +12,4 @@ returns-2 c = rw (c .before .before .source2 .given .1, c .index .ensures)
 pub value-of-spec : {M : Type 1} → statement M
 value-of-spec =
     tie.close
-    (tie.spec
-    enum-known-source
-    register-requires
-    enum-known-source-2
-    index-requires
-    returns
-    returns-2)
+    (tie.spec (λ c. search needs) (λ c κs. search needs) (λ c. search needs) (λ c κs. search needs) returns returns-2)

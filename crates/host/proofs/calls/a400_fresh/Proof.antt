@@ -10,19 +10,10 @@ returns : tie.Need-returns
 unfolding freshCall
 returns c = rw (ne-eqb _ _ (c .if1 .taken)) (record { outcome = refl; words = refl })
 
-fresh-record-requires : tie.Need-fresh-record-requires
-fresh-record-requires c κs = search needs
-
-write-record-requires : tie.Need-write-record-requires
-write-record-requires c κs = search needs
-
-same-length : tie.Need-same-length
-same-length c = search needs
-
 returns-2 : tie.Need-returns-2
 unfolding freshCall
 returns-2 c = rw (eq-eqb _ _ (c .before .before .before .before .before .if1 .left), c .before .before .write-record .ensures, c .before .before .before .before .fresh-record .ensures) (record { outcome = refl; words = refl })
 
 pub a400-fresh-spec : {M : Type 1} → statement M
 a400-fresh-spec =
-    tie.close (tie.spec returns fresh-record-requires write-record-requires same-length returns-2)
+    tie.close (tie.spec returns (λ c κs. search needs) (λ c κs. search needs) (λ c. search needs) returns-2)

@@ -4,20 +4,8 @@ use borrow.Author.Needs.{needs}
 use Rattle.host.proofs.calls.a400_step.Statement.{statement}
 use Rattle.host.proofs.calls.a400_step.Tie as tie
 
-call-requires : tie.Need-call-requires
-call-requires c κs = search needs
-
-same-length : tie.Need-same-length
-same-length c = search needs
-
-same-length-2 : tie.Need-same-length-2
-same-length-2 c = search needs
-
-same-length-3 : tie.Need-same-length-3
-same-length-3 c = search needs
-
 returns : tie.Need-returns
 returns c = rw (step-as-run (c .before .before .before .before .before .before .before .before .before .before .before .before .before .args .words .now) (c .before .before .before .before .before .before .before .before .before .before .before .before .before .args .pages .now) (c .before .before .before .before .before .before .before .before .before .before .before .before .before .args .memory .now)) (c .before .before .before .before .before .before .call .ensures .calls)
 
 pub a400-step-spec : {M : Type 1} → statement M
-a400-step-spec = tie.close (tie.spec call-requires same-length same-length-2 same-length-3 returns)
+a400-step-spec = tie.close (tie.spec (λ c κs. search needs) (λ c. search needs) (λ c. search needs) (λ c. search needs) returns)

@@ -15,29 +15,8 @@ returns-2 : tie.Need-returns-2
 unfolding writeCall
 returns-2 c = rw (eq-eqb _ _ (c .before .if1 .left), ne-eqb _ _ (c .if2 .taken), writeCall) (record { outcome = refl; words = refl })
 
-write-fields-requires : tie.Need-write-fields-requires
-write-fields-requires c κs = search needs
-
-enum-known-w : tie.Need-enum-known-w
-enum-known-w c = search needs
-
-slice-write-word : tie.Need-slice-write-word
-slice-write-word c = search needs
-
-enum-told : tie.Need-enum-told
-enum-told c = search needs
-
-slice-write-word-2 : tie.Need-slice-write-word-2
-slice-write-word-2 c = search needs
-
-same-length : tie.Need-same-length
-same-length c = search needs
-
 returns-3 : tie.Need-returns-3
 returns-3 c = let a = c .before .before .before .before .before .before .before .before .args in word-written (a .fields .now) (a .word .now) (c .before .before .before .before .before .if1 .left) (c .before .before .before .before .if2 .left) _ (sym (c .before .before .before .write-fields .ensures) ∙ c .before .w .given .1)
-
-same-length-2 : tie.Need-same-length-2
-same-length-2 c = search needs
 
 returns-4 : tie.Need-returns-4
 returns-4 c = let a = c .before .before .before .before .before .before .before .args in no-word (a .fields .now) (a .word .now) (c .before .before .before .before .if1 .left) (c .before .before .before .if2 .left) (sym (c .before .before .write-fields .ensures) ∙ c .enum-told .given .1)
@@ -45,15 +24,5 @@ returns-4 c = let a = c .before .before .before .before .before .before .before 
 pub a400-write-spec : {M : Type 1} → statement M
 a400-write-spec =
     tie.close
-    (tie.spec
-    returns
-    returns-2
-    write-fields-requires
-    enum-known-w
-    slice-write-word
-    enum-told
-    slice-write-word-2
-    same-length
-    returns-3
-    same-length-2
-    returns-4)
+    (tie.spec returns returns-2 (λ c κs. search needs) (λ c. search needs) (λ c. search needs) (λ c. search needs)
+    (λ c. search needs) (λ c. search needs) returns-3 (λ c. search needs) returns-4)

@@ -5,15 +5,6 @@ use borrow.Author.Needs.{needs}
 use Rattle.host.proofs.fields.code_word.Statement.{statement}
 use Rattle.host.proofs.fields.code_word.Tie as tie
 
-write-instruction-requires : tie.Need-write-instruction-requires
-write-instruction-requires c κs = search needs
-
-enum-known-w : tie.Need-enum-known-w
-enum-known-w c = search needs
-
-enum-told : tie.Need-enum-told
-enum-told c = search needs
-
 returns : tie.Need-returns
 returns c = ap wordOf (sym (c .before .w .given .1) ∙ c .before .before .before .write-instruction .ensures)
 
@@ -21,4 +12,4 @@ returns-2 : tie.Need-returns-2
 returns-2 c = ap wordOf (sym (c .enum-told .given .1) ∙ c .before .before .write-instruction .ensures)
 
 pub code-word-spec : {M : Type 1} → statement M
-code-word-spec = tie.close (tie.spec write-instruction-requires enum-known-w enum-told returns returns-2)
+code-word-spec = tie.close (tie.spec (λ c κs. search needs) (λ c. search needs) (λ c. search needs) returns returns-2)

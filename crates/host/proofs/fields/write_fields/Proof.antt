@@ -5,21 +5,6 @@ use borrow.Author.Needs.{needs}
 use Rattle.host.proofs.fields.write_fields.Statement.{statement}
 use Rattle.host.proofs.fields.write_fields.Tie as tie
 
-instruction-at-requires : tie.Need-instruction-at-requires
-instruction-at-requires c κs = search needs
-
-fields-of-requires : tie.Need-fields-of-requires
-fields-of-requires c κs = search needs
-
-slice-aggregate-same-words : tie.Need-slice-aggregate-same-words
-slice-aggregate-same-words c = search needs
-
-same-words-requires : tie.Need-same-words-requires
-same-words-requires c κs = search needs
-
-write-instruction-requires : tie.Need-write-instruction-requires
-write-instruction-requires c κs = search needs
-
 returns : tie.Need-returns
 returns c = c .write-instruction .ensures ∙ wrote (c .before .before .before .before .before .before .before .args .fields .now) (c .before .before .before .before .before .instruction-at .result) (c .before .before .before .before .fields-of .result) (c .before .before .same-words .result) (c .before .before .before .before .before .instruction-at .ensures) (c .before .before .before .before .fields-of .ensures) (c .before .before .same-words .ensures) (c .before .if1 .taken)
 
@@ -29,11 +14,5 @@ returns-2 c = unwritten (c .before .before .before .before .before .before .args
 pub write-fields-spec : {M : Type 1} → statement M
 write-fields-spec =
     tie.close
-    (tie.spec
-    instruction-at-requires
-    fields-of-requires
-    slice-aggregate-same-words
-    same-words-requires
-    write-instruction-requires
-    returns
-    returns-2)
+    (tie.spec (λ c κs. search needs) (λ c κs. search needs) (λ c. search needs) (λ c κs. search needs)
+    (λ c κs. search needs) returns returns-2)

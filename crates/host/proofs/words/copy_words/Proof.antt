@@ -47,16 +47,5 @@ returns c = let i = c .before .loop .i in let to = c .before .loop .to in let fr
 pub copy-words-spec : {M : Type 1} → statement M
 copy-words-spec =
     tie.close
-    (tie.spec
-    Inv-loop
-    μ-loop
-    loop-holds
-    mul-to
-    shared-slice-read-to
-    mul-to-2
-    slice-write-to
-    add-i
-    loop-less
-    loop-again
-    same-length
-    returns)
+    (tie.spec Inv-loop μ-loop loop-holds mul-to shared-slice-read-to mul-to-2 slice-write-to add-i loop-less loop-again
+    same-length returns)

@@ -6,69 +6,6 @@ use borrow.Author.Needs.{needs}
 use Rattle.lane.proofs.codes.alone.Statement.{statement}
 use Rattle.lane.proofs.codes.alone.Tie as tie
 
-copy-to-index-requires : tie.Need-copy-to-index-requires
-copy-to-index-requires c κs = search needs
-
-copy-to-index-requires-2 : tie.Need-copy-to-index-requires-2
-copy-to-index-requires-2 c κs = search needs
-
-copy-to-index-requires-3 : tie.Need-copy-to-index-requires-3
-copy-to-index-requires-3 c κs = search needs
-
-copy-to-index-requires-4 : tie.Need-copy-to-index-requires-4
-copy-to-index-requires-4 c κs = search needs
-
-copy-from-index-requires : tie.Need-copy-from-index-requires
-copy-from-index-requires c κs = search needs
-
-copy-from-index-requires-2 : tie.Need-copy-from-index-requires-2
-copy-from-index-requires-2 c κs = search needs
-
-copy-from-index-requires-3 : tie.Need-copy-from-index-requires-3
-copy-from-index-requires-3 c κs = search needs
-
-copy-from-index-requires-4 : tie.Need-copy-from-index-requires-4
-copy-from-index-requires-4 c κs = search needs
-
-exchange-requires : tie.Need-exchange-requires
-exchange-requires c κs = search needs
-
-exchange-requires-2 : tie.Need-exchange-requires-2
-exchange-requires-2 c κs = search needs
-
-exchange-requires-3 : tie.Need-exchange-requires-3
-exchange-requires-3 c κs = search needs
-
-exchange-requires-4 : tie.Need-exchange-requires-4
-exchange-requires-4 c κs = search needs
-
-increment-requires : tie.Need-increment-requires
-increment-requires c κs = search needs
-
-step-requires : tie.Need-step-requires
-step-requires c κs = search needs
-
-decrement-requires : tie.Need-decrement-requires
-decrement-requires c κs = search needs
-
-step-requires-2 : tie.Need-step-requires-2
-step-requires-2 c κs = search needs
-
-increment-requires-2 : tie.Need-increment-requires-2
-increment-requires-2 c κs = search needs
-
-step-requires-3 : tie.Need-step-requires-3
-step-requires-3 c κs = search needs
-
-decrement-requires-2 : tie.Need-decrement-requires-2
-decrement-requires-2 c κs = search needs
-
-step-requires-4 : tie.Need-step-requires-4
-step-requires-4 c κs = search needs
-
-shift-long-requires : tie.Need-shift-long-requires
-shift-long-requires c κs = search needs
-
 returns : tie.Need-returns
 returns c = copied-to _ A X (c .before .match .keys1) (c .copy-to-index .ensures)
 
@@ -123,42 +60,9 @@ returns-17 c = c .shift-long .ensures
 pub alone-spec : {M : Type 1} → statement M
 alone-spec =
     tie.close
-    (tie.spec
-    copy-to-index-requires
-    copy-to-index-requires-2
-    copy-to-index-requires-3
-    copy-to-index-requires-4
-    copy-from-index-requires
-    copy-from-index-requires-2
-    copy-from-index-requires-3
-    copy-from-index-requires-4
-    exchange-requires
-    exchange-requires-2
-    exchange-requires-3
-    exchange-requires-4
-    increment-requires
-    step-requires
-    decrement-requires
-    step-requires-2
-    increment-requires-2
-    step-requires-3
-    decrement-requires-2
-    step-requires-4
-    shift-long-requires
-    returns
-    returns-2
-    returns-3
-    returns-4
-    returns-5
-    returns-6
-    returns-7
-    returns-8
-    returns-9
-    returns-10
-    returns-11
-    returns-12
-    returns-13
-    returns-14
-    returns-15
-    returns-16
-    returns-17)
+    (tie.spec (λ c κs. search needs) (λ c κs. search needs) (λ c κs. search needs) (λ c κs. search needs)
+    (λ c κs. search needs) (λ c κs. search needs) (λ c κs. search needs) (λ c κs. search needs) (λ c κs. search needs)
+    (λ c κs. search needs) (λ c κs. search needs) (λ c κs. search needs) (λ c κs. search needs) (λ c κs. search needs)
+    (λ c κs. search needs) (λ c κs. search needs) (λ c κs. search needs) (λ c κs. search needs) (λ c κs. search needs)
+    (λ c κs. search needs) (λ c κs. search needs) returns returns-2 returns-3 returns-4 returns-5 returns-6 returns-7
+    returns-8 returns-9 returns-10 returns-11 returns-12 returns-13 returns-14 returns-15 returns-16 returns-17)

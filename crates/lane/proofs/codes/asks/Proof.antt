@@ -60,27 +60,8 @@ returns-15 c = rw (c .match .keys15) (λ r. ap (λ (i : Instruction). rule i r) 
 returns-16 : tie.Need-returns-16
 returns-16 c = rw (c .match .keys16) (λ r. ap (λ (i : Instruction). rule i r) (read-indexing Adx Y))
 
-returns-17 : tie.Need-returns-17
-returns-17 c = search needs
-
 pub asks-spec : {M : Type 1} → statement M
 asks-spec =
     tie.close
-    (tie.spec
-    returns
-    returns-2
-    returns-3
-    returns-4
-    returns-5
-    returns-6
-    returns-7
-    returns-8
-    returns-9
-    returns-10
-    returns-11
-    returns-12
-    returns-13
-    returns-14
-    returns-15
-    returns-16
-    returns-17)
+    (tie.spec returns returns-2 returns-3 returns-4 returns-5 returns-6 returns-7 returns-8 returns-9 returns-10
+    returns-11 returns-12 returns-13 returns-14 returns-15 returns-16 (λ c. search needs))

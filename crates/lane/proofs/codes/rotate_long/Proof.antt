@@ -5,15 +5,9 @@ use borrow.Author.Needs.{needs}
 use Rattle.lane.proofs.codes.rotate_long.Statement.{statement}
 use Rattle.lane.proofs.codes.rotate_long.Tie as tie
 
-long-shift-requires : tie.Need-long-shift-requires
-long-shift-requires c κs = search needs
-
-go-ahead-requires : tie.Need-go-ahead-requires
-go-ahead-requires c κs = search needs
-
 returns : tie.Need-returns
 unfolding longRotated
 returns c = c .go-ahead .ensures ∙ rw (c .before .long-shift .ensures) refl
 
 pub rotate-long-spec : {M : Type 1} → statement M
-rotate-long-spec = tie.close (tie.spec long-shift-requires go-ahead-requires returns)
+rotate-long-spec = tie.close (tie.spec (λ c κs. search needs) (λ c κs. search needs) returns)

@@ -5,27 +5,6 @@ use borrow.Author.Needs.{needs}
 use Rattle.lane.proofs.codes.shift_long.Statement.{statement}
 use Rattle.lane.proofs.codes.shift_long.Tie as tie
 
-rotate-long-requires : tie.Need-rotate-long-requires
-rotate-long-requires c κs = search needs
-
-rotate-long-requires-2 : tie.Need-rotate-long-requires-2
-rotate-long-requires-2 c κs = search needs
-
-rotate-long-requires-3 : tie.Need-rotate-long-requires-3
-rotate-long-requires-3 c κs = search needs
-
-rotate-long-requires-4 : tie.Need-rotate-long-requires-4
-rotate-long-requires-4 c κs = search needs
-
-rotate-long-requires-5 : tie.Need-rotate-long-requires-5
-rotate-long-requires-5 c κs = search needs
-
-rotate-long-requires-6 : tie.Need-rotate-long-requires-6
-rotate-long-requires-6 c κs = search needs
-
-returns : tie.Need-returns
-returns c = search needs
-
 returns-2 : tie.Need-returns-2
 returns-2 c = rotating _ Asl _ (c .before .match .keys1) (c .rotate-long .ensures)
 
@@ -47,17 +26,6 @@ returns-7 c = rotating _ Rrr _ (c .before .match .keys6) (c .rotate-long6 .ensur
 pub shift-long-spec : {M : Type 1} → statement M
 shift-long-spec =
     tie.close
-    (tie.spec
-    rotate-long-requires
-    rotate-long-requires-2
-    rotate-long-requires-3
-    rotate-long-requires-4
-    rotate-long-requires-5
-    rotate-long-requires-6
-    returns
-    returns-2
-    returns-3
-    returns-4
-    returns-5
-    returns-6
+    (tie.spec (λ c κs. search needs) (λ c κs. search needs) (λ c κs. search needs) (λ c κs. search needs)
+    (λ c κs. search needs) (λ c κs. search needs) (λ c. search needs) returns-2 returns-3 returns-4 returns-5 returns-6
     returns-7)

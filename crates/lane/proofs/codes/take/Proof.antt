@@ -4,20 +4,9 @@ use borrow.Author.Needs.{needs}
 use Rattle.lane.proofs.codes.take.Statement.{statement}
 use Rattle.lane.proofs.codes.take.Tie as tie
 
-read-word-requires : tie.Need-read-word-requires
-read-word-requires c κs = search needs
-
-enum-known-v : tie.Need-enum-known-v
-enum-known-v c = search needs
-
-returns : tie.Need-returns
-returns c = search needs
-
-finish-requires : tie.Need-finish-requires
-finish-requires c κs = search needs
-
 returns-2 : tie.Need-returns-2
 returns-2 c = finished-by (c .before .before .before .before .before .before .before .args .pages .now) (c .before .before .before .before .before .before .before .args .memory .now) (c .before .before .before .before .before .before .before .args .r) (c .before .before .before .before .before .before .before .args .taking) (c .before .before .before .before .before .before .before .args .at) (c .finish .result) (c .before .before .before .before .read-word .ensures) (c .before .before .v .given .1) (c .finish .ensures)
 
 pub take-spec : {M : Type 1} → statement M
-take-spec = tie.close (tie.spec read-word-requires enum-known-v returns finish-requires returns-2)
+take-spec = tie.close (tie.spec (λ c κs. search needs) (λ c. search needs) (λ c. search needs)
+    (λ c. search needs) (λ c κs. search needs) returns-2)

@@ -9,24 +9,6 @@ use borrow.Author.Needs.{needs}
 use Rattle.lane.proofs.group.shift_b.Statement.{statement}
 use Rattle.lane.proofs.group.shift_b.Tie as tie
 
-shift-rotate-of-requires : tie.Need-shift-rotate-of-requires
-shift-rotate-of-requires c κs = search needs
-
-shift-place-requires : tie.Need-shift-place-requires
-shift-place-requires c κs = search needs
-
-shift-place-requires-2 : tie.Need-shift-place-requires-2
-shift-place-requires-2 c κs = search needs
-
-set-register-requires : tie.Need-set-register-requires
-set-register-requires c κs = search needs
-
-go-ahead-requires : tie.Need-go-ahead-requires
-go-ahead-requires c κs = search needs
-
-go-ahead-requires-2 : tie.Need-go-ahead-requires-2
-go-ahead-requires-2 c κs = search needs
-
 returns : tie.Need-returns
 returns c = rw (← c .before .before .before .before .before .before .before .before .before .shift-rotate-of .ensures) (c .go-ahead .ensures ∙ rw (c .before .before .before .before .set-register .ensures) (shifted-by B (c .before .before .before .before .before .before .before .before .before .shift-rotate-of .result) (c .before .before .before .before .before .before .before .before .before .before .args .r) (ap (λ (i : ShiftRotate). i .register) (c .before .before .before .before .before .before .before .before .before .shift-rotate-of .ensures) ∙ ap registerAt (c .before .before .before .before .before .before .before .before .before .before .pre)) (c .before .before .before .before .before .before .before .before .shift-place .ensures) (c .before .before .before .before .before .shift-place2 .ensures) (rw (← even (c .before .before .before .before .before .before .before .before .shift-place .result .word), c .before .if1 .taken) refl)))
 
@@ -36,12 +18,5 @@ returns-2 c = rw (← c .before .before .before .before .before .before .before 
 pub shift-b-spec : {M : Type 1} → statement M
 shift-b-spec =
     tie.close
-    (tie.spec
-    shift-rotate-of-requires
-    shift-place-requires
-    shift-place-requires-2
-    set-register-requires
-    go-ahead-requires
-    go-ahead-requires-2
-    returns
-    returns-2)
+    (tie.spec (λ c κs. search needs) (λ c κs. search needs) (λ c κs. search needs) (λ c κs. search needs)
+    (λ c κs. search needs) (λ c κs. search needs) returns returns-2)

@@ -26,36 +26,6 @@ alter-b-requires c κs = omega (arith, c .before .match .keys2)
 shift-b-requires : tie.Need-shift-b-requires
 shift-b-requires c κs = omega (arith, c .before .match .keys2)
 
-take-requires : tie.Need-take-requires
-take-requires c κs = search needs
-
-take-requires-2 : tie.Need-take-requires-2
-take-requires-2 c κs = search needs
-
-take-requires-3 : tie.Need-take-requires-3
-take-requires-3 c κs = search needs
-
-take-requires-4 : tie.Need-take-requires-4
-take-requires-4 c κs = search needs
-
-take-requires-5 : tie.Need-take-requires-5
-take-requires-5 c κs = search needs
-
-take-requires-6 : tie.Need-take-requires-6
-take-requires-6 c κs = search needs
-
-take-requires-7 : tie.Need-take-requires-7
-take-requires-7 c κs = search needs
-
-take-requires-8 : tie.Need-take-requires-8
-take-requires-8 c κs = search needs
-
-take-requires-9 : tie.Need-take-requires-9
-take-requires-9 c κs = search needs
-
-put-requires : tie.Need-put-requires
-put-requires c κs = search needs
-
 returns : tie.Need-returns
 unfolding carried alterSkip
 returns c = rw (c .before .before .match .keys1, eq-eqb _ _ (c .before .if1 .taken)) (finished (c .before .before .before .before .before .args .pages .now) (c .before .before .before .before .before .args .memory .now) (c .before .before .before .before .before .args .r) (alterSkipped _) (c .before .before .before .before .before .args .memory .now) (c .alter-a .ensures))
@@ -72,71 +42,41 @@ returns-4 : tie.Need-returns-4
 unfolding carried shiftRotate
 returns-4 c = rw (c .before .before .match .keys2, ne-eqb _ _ (c .before .if2 .left)) (finished (c .before .before .before .before .before .args .pages .now) (c .before .before .before .before .before .args .memory .now) (c .before .before .before .before .before .args .r) (shiftRotated _) (c .before .before .before .before .before .args .memory .now) (c .shift-b .ensures))
 
-same-length : tie.Need-same-length
-same-length c = search needs
-
 returns-5 : tie.Need-returns-5
 unfolding carried takingAt
 returns-5 c = rw (c .before .before .match .keys3) (c .take .ensures)
-
-same-length-2 : tie.Need-same-length-2
-same-length-2 c = search needs
 
 returns-6 : tie.Need-returns-6
 unfolding carried takingAt
 returns-6 c = rw (c .before .before .match .keys4) (c .take2 .ensures)
 
-same-length-3 : tie.Need-same-length-3
-same-length-3 c = search needs
-
 returns-7 : tie.Need-returns-7
 unfolding carried takingAt
 returns-7 c = rw (c .before .before .match .keys5) (c .take3 .ensures)
-
-same-length-4 : tie.Need-same-length-4
-same-length-4 c = search needs
 
 returns-8 : tie.Need-returns-8
 unfolding carried takingAt
 returns-8 c = rw (c .before .before .match .keys6) (c .take4 .ensures)
 
-same-length-5 : tie.Need-same-length-5
-same-length-5 c = search needs
-
 returns-9 : tie.Need-returns-9
 unfolding carried takingAt
 returns-9 c = rw (c .before .before .match .keys7) (c .take5 .ensures)
-
-same-length-6 : tie.Need-same-length-6
-same-length-6 c = search needs
 
 returns-10 : tie.Need-returns-10
 unfolding carried takingAt
 returns-10 c = rw (c .before .before .match .keys8) (c .take6 .ensures)
 
-same-length-7 : tie.Need-same-length-7
-same-length-7 c = search needs
-
 returns-11 : tie.Need-returns-11
 unfolding carried takingAt
 returns-11 c = rw (c .before .before .match .keys9) (c .take7 .ensures)
-
-same-length-8 : tie.Need-same-length-8
-same-length-8 c = search needs
 
 returns-12 : tie.Need-returns-12
 unfolding carried takingAt
 returns-12 c = rw (c .before .before .match .keys10) (c .take8 .ensures)
 
-same-length-9 : tie.Need-same-length-9
-same-length-9 c = search needs
-
 returns-13 : tie.Need-returns-13
 unfolding carried takingAt
 returns-13 c = rw (c .before .before .match .keys11) (c .take9 .ensures)
-
-same-length-10 : tie.Need-same-length-10
-same-length-10 c = search needs
 
 returns-14 : tie.Need-returns-14
 unfolding carried
@@ -145,42 +85,9 @@ returns-14 c = rw (le-leb 2 (c .before .before .before .before .before .before .
 pub carry-spec : {M : Type 1} → statement M
 carry-spec =
     tie.close
-    (tie.spec
-    alter-a-requires
-    shift-a-requires
-    alter-b-requires
-    shift-b-requires
-    take-requires
-    take-requires-2
-    take-requires-3
-    take-requires-4
-    take-requires-5
-    take-requires-6
-    take-requires-7
-    take-requires-8
-    take-requires-9
-    put-requires
-    returns
-    returns-2
-    returns-3
-    returns-4
-    same-length
-    returns-5
-    same-length-2
-    returns-6
-    same-length-3
-    returns-7
-    same-length-4
-    returns-8
-    same-length-5
-    returns-9
-    same-length-6
-    returns-10
-    same-length-7
-    returns-11
-    same-length-8
-    returns-12
-    same-length-9
-    returns-13
-    same-length-10
-    returns-14)
+    (tie.spec alter-a-requires shift-a-requires alter-b-requires shift-b-requires (λ c κs. search needs)
+    (λ c κs. search needs) (λ c κs. search needs) (λ c κs. search needs) (λ c κs. search needs) (λ c κs. search needs)
+    (λ c κs. search needs) (λ c κs. search needs) (λ c κs. search needs) (λ c κs. search needs) returns returns-2
+    returns-3 returns-4 (λ c. search needs) returns-5 (λ c. search needs) returns-6 (λ c. search needs) returns-7
+    (λ c. search needs) returns-8 (λ c. search needs) returns-9 (λ c. search needs) returns-10 (λ c. search needs)
+    returns-11 (λ c. search needs) returns-12 (λ c. search needs) returns-13 (λ c. search needs) returns-14)

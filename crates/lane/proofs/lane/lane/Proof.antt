@@ -8,9 +8,6 @@ use borrow.Author.Needs.{needs}
 use Rattle.lane.specs.Lane.{Rolls, none, one-more}
 use Rattle.lane.proofs.lane.lane.Statement.{statement}
 use Rattle.lane.proofs.lane.lane.Tie as tie
-use Rattle.lane.proofs.lane.lane.Reads as reads
-use Rattle.lane.proofs.lane.lane.Lts as lts
-use Rattle.lane.proofs.lane.quick.Reads as quick-reads
 
 abbrev Inv-loop : tie.InvT-loop
 Inv-loop budget pages memory₀ s₀ count₀ memory s count =
@@ -19,64 +16,32 @@ Inv-loop budget pages memory₀ s₀ count₀ memory s count =
 abbrev μ-loop : tie.MeasureT-loop
 μ-loop budget pages memory₀ s₀ count₀ memory s count = budget - count
 
--- src/lane.rt:82:5
 loop-holds : tie.Need-loop-holds Inv-loop μ-loop
 loop-holds c = (omega arith, none, refl)
 
--- src/lane.rt:83:29
-quick-requires : tie.Need-quick-requires Inv-loop μ-loop
-quick-requires c κs = search needs
-
--- src/lane.rt:83:24
-enum-known-t : tie.Need-enum-known-t Inv-loop μ-loop
-enum-known-t c = search needs
-
--- src/lane.rt:84:13
-enum-told : tie.Need-enum-told Inv-loop μ-loop
-enum-told c = search needs
-
--- src/lane.rt:84:13
 same-length : tie.Need-same-length Inv-loop μ-loop
 same-length c = (c .before .before .before .before .quick .kept .1 .1 .0) ∙ c .before .before .before .before .before .before .before .loop .inv .2
 
--- src/lane.rt:84:13
 returns : tie.Need-returns Inv-loop μ-loop
 returns c = (c .before .before .before .before .before .before .before .loop .inv .0, rw (rw (c .enum-told .given .1) at (c .before .before .before .before .quick .ensures)) (c .before .before .before .before .before .before .before .loop .inv .1))
 
--- src/lane.rt:90:9
 add-count : tie.Need-add-count Inv-loop μ-loop
 add-count c = omega arith
 
--- src/lane.rt:82:5
 loop-less : tie.Need-loop-less Inv-loop μ-loop
 loop-less c = omega arith
 
--- src/lane.rt:82:5
 loop-again : tie.Need-loop-again Inv-loop μ-loop
 loop-again c = (omega arith, rw add-one (one-more (c .before .before .before .before .before .before .before .before .loop .inv .1) (rw (c .before .t .given .1) at (c .before .before .before .before .before .quick .ensures))), (c .before .before .before .before .before .quick .kept .1 .1 .0) ∙ c .before .before .before .before .before .before .before .before .loop .inv .2)
 
--- src/lane.rt:77:1
 same-length-2 : tie.Need-same-length-2 Inv-loop μ-loop
 same-length-2 c = c .before .loop .inv .2
 
--- src/lane.rt:77:1
 returns-2 : tie.Need-returns-2 Inv-loop μ-loop
 returns-2 c = (c .before .loop .inv .0, c .before .loop .inv .1)
 
 pub lane-spec : {M : Type 1} → statement M
 lane-spec =
     tie.close
-    (tie.spec
-    Inv-loop
-    μ-loop
-    loop-holds
-    quick-requires
-    enum-known-t
-    enum-told
-    same-length
-    returns
-    add-count
-    loop-less
-    loop-again
-    same-length-2
-    returns-2)
+    (tie.spec Inv-loop μ-loop loop-holds (λ c κs. search needs) (λ c. search needs) (λ c. search needs) same-length
+    returns add-count loop-less loop-again same-length-2 returns-2)

@@ -21,20 +21,11 @@ loop-holds c = record { size-of = refl; within = omega arith; so-far = refl }
 mul-byte-at : tie.Need-mul-byte-at Inv-loop μ-loop
 mul-byte-at c = omega arith
 
-byte-at-requires : tie.Need-byte-at-requires Inv-loop μ-loop
-byte-at-requires c κs = search needs
-
 mul-byte-at-2 : tie.Need-mul-byte-at-2 Inv-loop μ-loop
 mul-byte-at-2 c = omega arith
 
 add-byte-at : tie.Need-add-byte-at Inv-loop μ-loop
 add-byte-at c = omega arith
-
-byte-at-requires-2 : tie.Need-byte-at-requires-2 Inv-loop μ-loop
-byte-at-requires-2 c κs = search needs
-
-word-of-requires : tie.Need-word-of-requires Inv-loop μ-loop
-word-of-requires c κs = search needs
 
 mul-memory : tie.Need-mul-memory Inv-loop μ-loop
 mul-memory c = omega arith
@@ -59,19 +50,5 @@ returns c = whole (imageWord (c .before .before .before .args .bytes .now)) 8192
 pub image-words-spec : {M : Type 1} → statement M
 image-words-spec =
     tie.close
-    (tie.spec
-    Inv-loop
-    μ-loop
-    loop-holds
-    mul-byte-at
-    byte-at-requires
-    mul-byte-at-2
-    add-byte-at
-    byte-at-requires-2
-    word-of-requires
-    mul-memory
-    array-write-memory
-    add-i
-    loop-less
-    loop-again
-    returns)
+    (tie.spec Inv-loop μ-loop loop-holds mul-byte-at (λ c κs. search needs) mul-byte-at-2 add-byte-at
+    (λ c κs. search needs) (λ c κs. search needs) mul-memory array-write-memory add-i loop-less loop-again returns)

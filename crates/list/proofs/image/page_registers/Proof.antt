@@ -41,14 +41,4 @@ returns c = whole pageName 1024 _ _ (c .before .loop .inv) (omega arith)
 pub page-registers-spec : {M : Type 1} → statement M
 page-registers-spec =
     tie.close
-    (tie.spec
-    Inv-loop
-    μ-loop
-    loop-holds
-    cast-pages
-    mul-pages
-    array-write-pages
-    add-i
-    loop-less
-    loop-again
-    returns)
+    (tie.spec Inv-loop μ-loop loop-holds cast-pages mul-pages array-write-pages add-i loop-less loop-again returns)

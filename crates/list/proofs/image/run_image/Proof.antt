@@ -10,30 +10,12 @@ use Rattle.list.proofs.Tables.{length-tabulated, take-tabulated, most}
 use Rattle.list.proofs.image.run_image.Statement.{statement}
 use Rattle.list.proofs.image.run_image.Tie as tie
 
-fresh-record-requires : tie.Need-fresh-record-requires
-fresh-record-requires c κs = search needs
-
-is-whole-requires : tie.Need-is-whole-requires
-is-whole-requires c κs = search needs
-
-page-registers-requires : tie.Need-page-registers-requires
-page-registers-requires c κs = search needs
-
-image-words-requires : tie.Need-image-words-requires
-image-words-requires c κs = search needs
-
-slice-aggregate-run : tie.Need-slice-aggregate-run
-slice-aggregate-run c = search needs
-
 array-borrow-prefix-memory : tie.Need-array-borrow-prefix-memory
 array-borrow-prefix-memory c = rw (c .before .image-words .ensures, length-tabulated) (omega (arith, (most (length (c .before .before .before .before .before .before .before .args .bytes .now)) (sym (c .before .before .before .before .is-whole .ensures) ∙ c .before .before .before .if1 .taken))))
 
 slice-aggregate-run-2 : tie.Need-slice-aggregate-run-2
 slice-aggregate-run-2 c =
     sym (length-take-le _ (c .before .before .image-words .result) (rw (c .before .before .image-words .ensures, length-tabulated) (omega (arith, (most (length (c .before .before .before .before .before .before .before .before .args .bytes .now)) (sym (c .before .before .before .before .before .is-whole .ensures) ∙ c .before .before .before .before .if1 .taken))))))
-
-run-requires : tie.Need-run-requires
-run-requires c κs = search needs
 
 returns : tie.Need-returns
 returns c =
@@ -53,14 +35,5 @@ returns-2 c = rw (c .before .before .fresh-record .ensures, ← c .before .is-wh
 pub run-image-spec : {M : Type 1} → statement M
 run-image-spec =
     tie.close
-    (tie.spec
-    fresh-record-requires
-    is-whole-requires
-    page-registers-requires
-    image-words-requires
-    slice-aggregate-run
-    array-borrow-prefix-memory
-    slice-aggregate-run-2
-    run-requires
-    returns
-    returns-2)
+    (tie.spec (λ c κs. search needs) (λ c κs. search needs) (λ c κs. search needs) (λ c κs. search needs)
+    (λ c. search needs) array-borrow-prefix-memory slice-aggregate-run-2 (λ c κs. search needs) returns returns-2)

@@ -5,12 +5,6 @@ use Rattle.list.specs.Text.{put}
 use Rattle.list.proofs.text.with_byte.Statement.{statement}
 use Rattle.list.proofs.text.with_byte.Tie as tie
 
-element-write-s : tie.Need-element-write-s
-element-write-s c = search needs
-
-add-s : tie.Need-add-s
-add-s c = search needs
-
 returns : tie.Need-returns
 unfolding put
 returns c = simp (lt-ltb _ _ (c .if1 .taken))
@@ -20,4 +14,4 @@ unfolding put
 returns-2 c = simp (le-ltb _ _ (c .if1 .left))
 
 pub with-byte-spec : {M : Type 1} → statement M
-with-byte-spec = tie.close (tie.spec element-write-s add-s returns returns-2)
+with-byte-spec = tie.close (tie.spec (λ c. search needs) (λ c. search needs) returns returns-2)

@@ -25,26 +25,14 @@ abbrev μ-loop : tie.MeasureT-loop
 returns : tie.Need-returns Inv-loop μ-loop
 returns c = finished (c .before .before .before .before .before .args .pages .now) (c .before .before .before .before .before .args .budget) 0 (c .before .before .before .before .before .args .r) (sym (c .if2 .taken)) (rw sub-zero (plus-none _))
 
-apart-requires : tie.Need-apart-requires Inv-loop μ-loop
-apart-requires c κs = search needs
-
 take-turn-requires : tie.Need-take-turn-requires Inv-loop μ-loop
 take-turn-requires c κs = rw (c .before .apart .ensures) (c .before .before .before .before .before .before .before .pre)
-
-enum-known-x : tie.Need-enum-known-x Inv-loop μ-loop
-enum-known-x c = search needs
 
 same-length : tie.Need-same-length Inv-loop μ-loop
 same-length c = c .before .before .before .before .before .take-turn .kept .1 .1 .0
 
 returns-2 : tie.Need-returns-2 Inv-loop μ-loop
 returns-2 c = ended-at-once (c .before .before .before .before .before .before .before .before .before .before .before .before .before .args .pages .now) (c .before .before .before .before .before .before .before .before .before .before .before .before .before .args .memory .now) _ (c .before .before .before .before .before .before .before .before .before .before .before .before .before .args .r) (c .before .before .before .before .before .before .before .before .before .before .before .before .before .args .budget) (c .before .before .before .before .before .before .before .before .if2 .left) (rw (c .before .before .before .before .before .before .before .apart .ensures, c .before .x .given .1) at (c .before .before .before .before .before .take-turn .ensures))
-
-enum-known-t : tie.Need-enum-known-t Inv-loop μ-loop
-enum-known-t c = search needs
-
-apart-requires-2 : tie.Need-apart-requires-2 Inv-loop μ-loop
-apart-requires-2 c κs = search needs
 
 loop-holds : tie.Need-loop-holds Inv-loop μ-loop
 loop-holds c =
@@ -53,9 +41,6 @@ loop-holds c =
 
 sub-lane : tie.Need-sub-lane Inv-loop μ-loop
 sub-lane c = omega arith
-
-lane-requires : tie.Need-lane-requires Inv-loop μ-loop
-lane-requires c κs = search needs
 
 add-count : tie.Need-add-count Inv-loop μ-loop
 add-count c = omega (arith, c .before .before .before .before .lane .ensures .0, c .before .before .before .before .before .before .before .before .before .before .before .before .before .fits .budget)
@@ -69,14 +54,8 @@ returns-3 c =
     let k = c .before .before .before .before .before .lane .ensures .0 in
     finished _ _ _ _ (omega arith) (e .goes ∙ (rolling (c .before .before .before .before .before .before .before .before .before .before .before .before .before .before .args .budget) (c .before .before .before .before .before .before .before .before .before .loop .count) (c .before .before .before .before .before .lane .result .count) (c .before .before .before .before .before .before .before .before .before .loop .inv .0) (c .before .before .before .before .before .lane .ensures .0) (c .before .before .before .before .before .before .before .before .before .loop .inv .2) (rolled (c .before .before .before .before .before .before .before .before .before .loop .inv .1) (c .before .before .before .before .before .lane .ensures .1))))
 
-apart-requires-3 : tie.Need-apart-requires-3 Inv-loop μ-loop
-apart-requires-3 c κs = search needs
-
 take-turn-requires-2 : tie.Need-take-turn-requires-2 Inv-loop μ-loop
 take-turn-requires-2 c κs = rw (c .before .apart3 .ensures) ((rolled (c .before .before .before .before .before .before .before .before .before .before .before .loop .inv .1) (c .before .before .before .before .before .before .before .lane .ensures .1)) .good)
-
-enum-known-x-2 : tie.Need-enum-known-x-2 Inv-loop μ-loop
-enum-known-x-2 c = search needs
 
 add-t30 : tie.Need-add-t30 Inv-loop μ-loop
 add-t30 c = omega (arith, (rw (c .before .before .before .before .before .before .before .before .before .apart3 .ensures, c .before .before .before .x2 .given .1) at (c .before .before .before .before .before .before .before .take-turn2 .ensures)) .0, c .before .before .before .before .before .before .before .before .before .before .if3 .left, c .before .before .before .before .before .before .before .before .before .before .before .before .before .before .before .before .before .before .before .before .before .before .before .before .fits .budget)
@@ -89,12 +68,6 @@ returns-4 c =
     let e : Entered (c .before .before .before .before .before .before .before .before .before .before .before .before .before .before .before .before .before .before .before .before .before .before .before .before .args .pages .now) (c .before .before .before .before .before .before .before .before .before .before .before .before .before .before .before .before .before .before .before .before .before .before .before .before .args .budget) (c .before .before .before .before .before .before .before .before .before .before .before .before .before .before .before .before .before .before .before .before .before .before .before .before .args .r) (c .before .before .before .before .before .before .before .before .before .before .before .before .before .before .before .before .before .before .before .before .before .before .before .before .args .memory .now) (c .before .before .before .before .before .before .before .before .before .before .before .before .before .before .before .before .before .before .before .before .if1 .s) (c .before .before .before .before .before .before .before .before .before .before .before .before .before .before .before .before .before .before .before .before .if1 .memory) (c .before .before .before .before .before .before .before .before .before .before .before .before .before .before .before .before .before .before .before .before .if1 .count) = (⊎-elim (λ x. rw (x .11, x .12, x .13, x .10 .ensures) (entered-one (c .before .before .before .before .before .before .before .before .before .before .before .before .before .before .before .before .before .before .before .before .before .before .before .before .args .budget) (x .1 .left) (rw (x .2 .ensures, x .8 .given .1) at (x .4 .ensures)))) (λ y. rw (y .1, y .2, y .3) (entered-none (c .before .before .before .before .before .before .before .before .before .before .before .before .before .before .before .before .before .before .before .before .before .before .before .before .args .budget) (c .before .before .before .before .before .before .before .before .before .before .before .before .before .before .before .before .before .before .before .before .before .before .before .before .pre))) (c .before .before .before .before .before .before .before .before .before .before .before .before .before .before .before .before .before .before .before .before .if1 .came)) in
     let k = turn-out (c .before .before .before .before .before .before .before .before .before .before .before .before .before .before .before .before .before .before .before .before .before .before .before .before .args .pages .now) _ _ _ (c .before .before .before .before .before .before .before .before .before .before .before .before .before .before .before .before .before .before .before .before .before .before .before .before .args .budget) _ (c .before .before .before .before .before .before .before .before .before .before .if3 .left) (e .goes ∙ (rolling (c .before .before .before .before .before .before .before .before .before .before .before .before .before .before .before .before .before .before .before .before .before .before .before .before .args .budget) (c .before .before .before .before .before .before .before .before .before .before .before .before .before .before .before .before .before .before .before .loop .count) (c .before .before .before .before .before .before .before .before .before .before .before .before .before .before .before .lane .result .count) (c .before .before .before .before .before .before .before .before .before .before .before .before .before .before .before .before .before .before .before .loop .inv .0) (c .before .before .before .before .before .before .before .before .before .before .before .before .before .before .before .lane .ensures .0) (c .before .before .before .before .before .before .before .before .before .before .before .before .before .before .before .before .before .before .before .loop .inv .2) (rolled (c .before .before .before .before .before .before .before .before .before .before .before .before .before .before .before .before .before .before .before .loop .inv .1) (c .before .before .before .before .before .before .before .before .before .before .before .before .before .before .before .lane .ensures .1)))) ((rw (c .before .before .before .before .before .before .before .before .before .apart3 .ensures, c .before .before .before .x2 .given .1) at (c .before .before .before .before .before .before .before .take-turn2 .ensures)) .1) in
     record { outcome = sym (ap (λ (l : Leaves). l .ran) k); memory = sym (ap (λ (l : Leaves). l .memory) k) }
-
-enum-known-t-2 : tie.Need-enum-known-t-2 Inv-loop μ-loop
-enum-known-t-2 c = search needs
-
-apart-requires-4 : tie.Need-apart-requires-4 Inv-loop μ-loop
-apart-requires-4 c κs = search needs
 
 add-count-2 : tie.Need-add-count-2 Inv-loop μ-loop
 add-count-2 c = omega (arith, c .before .before .before .before .before .before .before .before .before .if3 .left, c .before .before .before .before .before .before .before .before .before .before .before .before .before .before .before .before .before .before .before .before .before .before .before .fits .budget)
@@ -119,33 +92,7 @@ returns-5 c =
 pub go-spec : {M : Type 1} → statement M
 go-spec =
     tie.close
-    (tie.spec
-    Inv-loop
-    μ-loop
-    returns
-    apart-requires
-    take-turn-requires
-    enum-known-x
-    same-length
-    returns-2
-    enum-known-t
-    apart-requires-2
-    loop-holds
-    sub-lane
-    lane-requires
-    add-count
-    same-length-2
-    returns-3
-    apart-requires-3
-    take-turn-requires-2
-    enum-known-x-2
-    add-t30
-    same-length-3
-    returns-4
-    enum-known-t-2
-    apart-requires-4
-    add-count-2
-    loop-less
-    loop-again
-    same-length-4
-    returns-5)
+    (tie.spec Inv-loop μ-loop returns (λ c κs. search needs) take-turn-requires (λ c. search needs) same-length
+    returns-2 (λ c. search needs) (λ c κs. search needs) loop-holds sub-lane (λ c κs. search needs) add-count
+    same-length-2 returns-3 (λ c κs. search needs) take-turn-requires-2 (λ c. search needs) add-t30 same-length-3
+    returns-4 (λ c. search needs) (λ c κs. search needs) add-count-2 loop-less loop-again same-length-4 returns-5)

@@ -6,17 +6,8 @@ use borrow.Author.Needs.{needs}
 use Rattle.machine.proofs.run.run.Statement.{statement}
 use Rattle.machine.proofs.run.run.Tie as tie
 
-is-good-call-requires : tie.Need-is-good-call-requires
-is-good-call-requires c κs = search needs
-
 go-requires : tie.Need-go-requires
 go-requires c κs = sym (c .before .before .before .before .is-good-call .ensures) ∙ c .before .before .before .if1 .taken
-
-same-length : tie.Need-same-length
-same-length c = search needs
-
-same-length-2 : tie.Need-same-length-2
-same-length-2 c = search needs
 
 returns : tie.Need-returns
 unfolding ran
@@ -33,11 +24,4 @@ returns-3 c = record { goes = rw (← c .before .is-good-call .ensures, c .if1 .
 pub run-spec : {M : Type 1} → statement M
 run-spec =
     tie.close
-    (tie.spec
-    is-good-call-requires
-    go-requires
-    same-length
-    same-length-2
-    returns
-    returns-2
-    returns-3)
+    (tie.spec (λ c κs. search needs) go-requires (λ c. search needs) (λ c. search needs) returns returns-2 returns-3)

@@ -7,26 +7,11 @@ use borrow.Author.Needs.{needs}
 use Rattle.machine.proofs.run.take_turn.Statement.{statement}
 use Rattle.machine.proofs.run.take_turn.Tie as tie
 
-fetch-requires : tie.Need-fetch-requires
-fetch-requires c κs = search needs
-
-number-of-requires : tie.Need-number-of-requires
-number-of-requires c κs = search needs
-
-same-length : tie.Need-same-length
-same-length c = search needs
-
 returns : tie.Need-returns
 returns c = (good-next (c .before .before .before .before .before .before .before .before .before .args .pages .now) (c .before .before .before .before .before .before .before .before .before .args .r) (c .before .before .before .before .before .before .before .before .before .args .memory .now) (c .before .before .before .before .before .before .before .before .before .pre) (c .before .before .before .before .before .fetch .result) _ (c .before .before .before .before .before .fetch .ensures), λ left. going-on (c .before .before .before .before .before .before .before .before .before .args .pages .now) (c .before .before .before .before .before .before .before .before .before .args .r) (c .before .before .before .before .before .before .before .before .before .args .memory .now) (c .before .before .before .before .before .before .before .before .before .pre) (c .before .before .before .before .before .fetch .result) _ (c .before .before .before .before .before .fetch .ensures) left (rw (← c .before .number-of .ensures) (eq-eqb _ _ (c .if1 .taken))))
 
-same-length-2 : tie.Need-same-length-2
-same-length-2 c = search needs
-
 returns-2 : tie.Need-returns-2
 returns-2 c = (omega arith, λ left. going-out (c .before .before .before .before .before .before .before .before .before .before .args .pages .now) (c .before .before .before .before .before .before .before .before .before .before .args .r) (c .before .before .before .before .before .before .before .before .before .before .args .memory .now) (c .before .before .before .before .before .before .before .before .before .before .pre) (c .before .before .before .before .before .before .fetch .result) _ (c .before .before .before .before .before .before .fetch .ensures) left (rw (← c .before .before .number-of .ensures) (ne-eqb _ _ (c .before .if1 .left))) ∙ rw (← c .before .before .number-of .ensures, eq-eqb _ _ (c .if2 .taken)))
-
-same-length-3 : tie.Need-same-length-3
-same-length-3 c = search needs
 
 returns-3 : tie.Need-returns-3
 returns-3 c = (omega arith, λ left. going-out (c .before .before .before .before .before .before .before .before .before .before .args .pages .now) (c .before .before .before .before .before .before .before .before .before .before .args .r) (c .before .before .before .before .before .before .before .before .before .before .args .memory .now) (c .before .before .before .before .before .before .before .before .before .before .pre) (c .before .before .before .before .before .before .fetch .result) _ (c .before .before .before .before .before .before .fetch .ensures) left (rw (← c .before .before .number-of .ensures) (ne-eqb _ _ (c .before .if1 .left))) ∙ rw (← c .before .before .number-of .ensures, ne-eqb _ _ (c .if2 .left)))
@@ -34,12 +19,5 @@ returns-3 c = (omega arith, λ left. going-out (c .before .before .before .befor
 pub take-turn-spec : {M : Type 1} → statement M
 take-turn-spec =
     tie.close
-    (tie.spec
-    fetch-requires
-    number-of-requires
-    same-length
-    returns
-    same-length-2
-    returns-2
-    same-length-3
-    returns-3)
+    (tie.spec (λ c κs. search needs) (λ c κs. search needs) (λ c. search needs) returns (λ c. search needs) returns-2
+    (λ c. search needs) returns-3)

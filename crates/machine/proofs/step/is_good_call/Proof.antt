@@ -3,11 +3,8 @@ use borrow.Author.Needs.{needs}
 use Rattle.machine.proofs.step.is_good_call.Statement.{statement}
 use Rattle.machine.proofs.step.is_good_call.Tie as tie
 
-is-valid-requires : tie.Need-is-valid-requires
-is-valid-requires c κs = search needs
-
 returns : tie.Need-returns
 returns c = rw (c .is-valid .ensures)
 
 pub is-good-call-spec : {M : Type 1} → statement M
-is-good-call-spec = tie.close (tie.spec is-valid-requires returns)
+is-good-call-spec = tie.close (tie.spec (λ c κs. search needs) returns)

@@ -15,9 +15,6 @@ abbrev μ-loop : tie.MeasureT-loop
 loop-holds : tie.Need-loop-holds Inv-loop μ-loop
 loop-holds c = (refl, omega arith)
 
-put-requires : tie.Need-put-requires Inv-loop μ-loop
-put-requires c κs = search needs
-
 add-i : tie.Need-add-i Inv-loop μ-loop
 add-i c = omega arith
 
@@ -27,30 +24,8 @@ loop-less c = omega arith
 loop-again : tie.Need-loop-again Inv-loop μ-loop
 loop-again c = (search needs, omega arith)
 
-program-requires : tie.Need-program-requires Inv-loop μ-loop
-program-requires c κs = search needs
-
-put-requires-2 : tie.Need-put-requires-2 Inv-loop μ-loop
-put-requires-2 c κs = search needs
-
-same-length : tie.Need-same-length Inv-loop μ-loop
-same-length c = search needs
-
-returns : tie.Need-returns Inv-loop μ-loop
-returns c = search needs
-
 pub pattern-spec : {M : Type 1} → statement M
 pattern-spec =
     tie.close
-    (tie.spec
-    Inv-loop
-    μ-loop
-    loop-holds
-    put-requires
-    add-i
-    loop-less
-    loop-again
-    program-requires
-    put-requires-2
-    same-length
-    returns)
+    (tie.spec Inv-loop μ-loop loop-holds (λ c κs. search needs) add-i loop-less loop-again (λ c κs. search needs)
+    (λ c κs. search needs) (λ c. search needs) (λ c. search needs))

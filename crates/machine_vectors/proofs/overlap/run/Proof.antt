@@ -13,12 +13,6 @@ abbrev μ-loop : tie.MeasureT-loop
 loop-holds : tie.Need-loop-holds Inv-loop μ-loop
 loop-holds c = omega arith
 
-slice-aggregate-words : tie.Need-slice-aggregate-words Inv-loop μ-loop
-slice-aggregate-words c = search needs
-
-words-requires : tie.Need-words-requires Inv-loop μ-loop
-words-requires c κs = search needs
-
 add-n : tie.Need-add-n Inv-loop μ-loop
 add-n c = omega arith
 
@@ -28,51 +22,9 @@ loop-less c = omega arith
 loop-again : tie.Need-loop-again Inv-loop μ-loop
 loop-again c = omega arith
 
-slice-aggregate-words-2 : tie.Need-slice-aggregate-words-2 Inv-loop μ-loop
-slice-aggregate-words-2 c = search needs
-
-words-requires-2 : tie.Need-words-requires-2 Inv-loop μ-loop
-words-requires-2 c κs = search needs
-
-bytes-requires : tie.Need-bytes-requires Inv-loop μ-loop
-bytes-requires c κs = search needs
-
-bytes-requires-2 : tie.Need-bytes-requires-2 Inv-loop μ-loop
-bytes-requires-2 c κs = search needs
-
-bytes-requires-3 : tie.Need-bytes-requires-3 Inv-loop μ-loop
-bytes-requires-3 c κs = search needs
-
-bytes-requires-4 : tie.Need-bytes-requires-4 Inv-loop μ-loop
-bytes-requires-4 c κs = search needs
-
-bytes-requires-5 : tie.Need-bytes-requires-5 Inv-loop μ-loop
-bytes-requires-5 c κs = search needs
-
-bytes-requires-6 : tie.Need-bytes-requires-6 Inv-loop μ-loop
-bytes-requires-6 c κs = search needs
-
-returns : tie.Need-returns Inv-loop μ-loop
-returns c = search needs
-
 pub run-spec : {M : Type 1} → statement M
 run-spec =
     tie.close
-    (tie.spec
-    Inv-loop
-    μ-loop
-    loop-holds
-    slice-aggregate-words
-    words-requires
-    add-n
-    loop-less
-    loop-again
-    slice-aggregate-words-2
-    words-requires-2
-    bytes-requires
-    bytes-requires-2
-    bytes-requires-3
-    bytes-requires-4
-    bytes-requires-5
-    bytes-requires-6
-    returns)
+    (tie.spec Inv-loop μ-loop loop-holds (λ c. search needs) (λ c κs. search needs) add-n loop-less loop-again
+    (λ c. search needs) (λ c κs. search needs) (λ c κs. search needs) (λ c κs. search needs) (λ c κs. search needs)
+    (λ c κs. search needs) (λ c κs. search needs) (λ c κs. search needs) (λ c. search needs))

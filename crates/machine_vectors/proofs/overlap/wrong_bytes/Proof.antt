@@ -10,38 +10,8 @@ Inv-loop memory from n wrong₀ i₀ wrong i = i ≤ n
 abbrev μ-loop : tie.MeasureT-loop
 μ-loop memory from n wrong₀ i₀ wrong i = n - i
 
-plus-requires : tie.Need-plus-requires Inv-loop μ-loop
-plus-requires c κs = search needs
-
-plus-requires-2 : tie.Need-plus-requires-2 Inv-loop μ-loop
-plus-requires-2 c κs = search needs
-
-byte-requires : tie.Need-byte-requires Inv-loop μ-loop
-byte-requires c κs = search needs
-
-plus-requires-3 : tie.Need-plus-requires-3 Inv-loop μ-loop
-plus-requires-3 c κs = search needs
-
-pattern-byte-requires : tie.Need-pattern-byte-requires Inv-loop μ-loop
-pattern-byte-requires c κs = search needs
-
-differs-requires : tie.Need-differs-requires Inv-loop μ-loop
-differs-requires c κs = search needs
-
 loop-holds : tie.Need-loop-holds Inv-loop μ-loop
 loop-holds c = omega arith
-
-plus-requires-4 : tie.Need-plus-requires-4 Inv-loop μ-loop
-plus-requires-4 c κs = search needs
-
-byte-requires-2 : tie.Need-byte-requires-2 Inv-loop μ-loop
-byte-requires-2 c κs = search needs
-
-differs-requires-2 : tie.Need-differs-requires-2 Inv-loop μ-loop
-differs-requires-2 c κs = search needs
-
-plus-requires-5 : tie.Need-plus-requires-5 Inv-loop μ-loop
-plus-requires-5 c κs = search needs
 
 add-i : tie.Need-add-i Inv-loop μ-loop
 add-i c = omega arith
@@ -52,43 +22,10 @@ loop-less c = omega arith
 loop-again : tie.Need-loop-again Inv-loop μ-loop
 loop-again c = omega arith
 
-plus-requires-6 : tie.Need-plus-requires-6 Inv-loop μ-loop
-plus-requires-6 c κs = search needs
-
-byte-requires-3 : tie.Need-byte-requires-3 Inv-loop μ-loop
-byte-requires-3 c κs = search needs
-
-differs-requires-3 : tie.Need-differs-requires-3 Inv-loop μ-loop
-differs-requires-3 c κs = search needs
-
-plus-requires-7 : tie.Need-plus-requires-7 Inv-loop μ-loop
-plus-requires-7 c κs = search needs
-
-returns : tie.Need-returns Inv-loop μ-loop
-returns c = search needs
-
 pub wrong-bytes-spec : {M : Type 1} → statement M
 wrong-bytes-spec =
     tie.close
-    (tie.spec
-    Inv-loop
-    μ-loop
-    plus-requires
-    plus-requires-2
-    byte-requires
-    plus-requires-3
-    pattern-byte-requires
-    differs-requires
-    loop-holds
-    plus-requires-4
-    byte-requires-2
-    differs-requires-2
-    plus-requires-5
-    add-i
-    loop-less
-    loop-again
-    plus-requires-6
-    byte-requires-3
-    differs-requires-3
-    plus-requires-7
-    returns)
+    (tie.spec Inv-loop μ-loop (λ c κs. search needs) (λ c κs. search needs) (λ c κs. search needs)
+    (λ c κs. search needs) (λ c κs. search needs) (λ c κs. search needs) loop-holds (λ c κs. search needs)
+    (λ c κs. search needs) (λ c κs. search needs) (λ c κs. search needs) add-i loop-less loop-again
+    (λ c κs. search needs) (λ c κs. search needs) (λ c κs. search needs) (λ c κs. search needs) (λ c. search needs))

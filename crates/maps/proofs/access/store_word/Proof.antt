@@ -22,26 +22,8 @@ stored : (pages earlier : List ℕ) (wmap : ℕ) (map : Map) (address value : �
     → Stored pages earlier wmap map address value r (put r earlier value)
 stored pages earlier wmap map address value e = record { outcome = sym e; memory = rw e }
 
-place-of-requires : tie.Need-place-of-requires
-place-of-requires c κs = search needs
-
-enum-told : tie.Need-enum-told
-enum-told c = search needs
-
-enum-told-2 : tie.Need-enum-told-2
-enum-told-2 c = search needs
-
-enum-known-index : tie.Need-enum-known-index
-enum-known-index c = search needs
-
 set-word-requires : tie.Need-set-word-requires
 set-word-requires c κs = below (c .before .before)
-
-enum-told-3 : tie.Need-enum-told-3
-enum-told-3 c = search needs
-
-enum-known-page : tie.Need-enum-known-page
-enum-known-page c = search needs
 
 returns : tie.Need-returns
 returns c = stored _ _ _ _ _ _ (sym (c .before .before .place-of .ensures) ∙ c .enum-told .given .1)
@@ -49,34 +31,16 @@ returns c = stored _ _ _ _ _ _ (sym (c .before .before .place-of .ensures) ∙ c
 returns-2 : tie.Need-returns-2
 returns-2 c = stored _ _ _ _ _ _ (sym (c .before .before .place-of .ensures) ∙ c .enum-told2 .given .1)
 
-same-length : tie.Need-same-length
-same-length c = search needs
-
 returns-3 : tie.Need-returns-3
 returns-3 c =
     rw (c .before .before .set-word .ensures)
     (stored _ _ _ _ _ _ (sym (c .before .before .before .before .before .before .before .place-of .ensures) ∙ c .before .before .before .before .before .index .given .1))
 
 returns-4 : tie.Need-returns-4
-returns-4 c = stored _ _ _ _ _ _ (sym (c .before .before .place-of .ensures) ∙ c .enum-told3 .given .1)
-
-returns-5 : tie.Need-returns-5
-returns-5 c = stored _ _ _ _ _ _ (sym (c .before .before .before .place-of .ensures) ∙ c .before .page .given .1)
+returns-4 c = stored _ _ _ _ _ _ (sym (c .before .before .before .place-of .ensures) ∙ c .before .trouble .given .1)
 
 pub store-word-spec : {M : Type 1} → statement M
 store-word-spec =
     tie.close
-    (tie.spec
-    place-of-requires
-    enum-told
-    enum-told-2
-    enum-known-index
-    set-word-requires
-    enum-told-3
-    enum-known-page
-    returns
-    returns-2
-    same-length
-    returns-3
-    returns-4
-    returns-5)
+    (tie.spec (λ c κs. search needs) (λ c. search needs) (λ c. search needs) (λ c. search needs) set-word-requires
+    (λ c. search needs) returns returns-2 (λ c. search needs) returns-3 returns-4)

@@ -39,48 +39,20 @@ returns c = sym (chased-out _ _ (eq-eqb _ _ (c .before .loop-test .taken))) ∙ 
 sub-left : tie.Need-sub-left Inv-loop μ-loop
 sub-left c = omega arith
 
-read-word-requires : tie.Need-read-word-requires Inv-loop μ-loop
-read-word-requires c κs = search needs
-
-enum-known-next : tie.Need-enum-known-next Inv-loop μ-loop
-enum-known-next c = search needs
-
 loop-less : tie.Need-loop-less Inv-loop μ-loop
 loop-less c = omega arith
 
 loop-again : tie.Need-loop-again Inv-loop μ-loop
 loop-again c = rw (sym (c .before .before .before .read-word .ensures) ∙ c .before .next .given .1) at (read-on (c .before .before .before .before))
 
-enum-told : tie.Need-enum-told Inv-loop μ-loop
-enum-told c = search needs
-
 returns-2 : tie.Need-returns-2 Inv-loop μ-loop
-returns-2 c = rw (sym (c .before .before .read-word .ensures) ∙ c .enum-told .given .1) at (read-on (c .before .before .before))
-
-enum-known-page : tie.Need-enum-known-page Inv-loop μ-loop
-enum-known-page c = search needs
+returns-2 c = rw (sym (c .before .before .before .read-word .ensures) ∙ c .before .trouble .given .1) at (read-on (c .before .before .before .before))
 
 returns-3 : tie.Need-returns-3 Inv-loop μ-loop
-returns-3 c = rw (sym (c .before .before .before .read-word .ensures) ∙ c .before .page .given .1) at (read-on (c .before .before .before .before))
-
-returns-4 : tie.Need-returns-4 Inv-loop μ-loop
-returns-4 c = sym (chased-ends _ _ _ (ne-eqb _ _ (c .loop-test .left))) ∙ c .before .loop .inv
+returns-3 c = sym (chased-ends _ _ _ (ne-eqb _ _ (c .loop-test .left))) ∙ c .before .loop .inv
 
 pub follow-spec : {M : Type 1} → statement M
 follow-spec =
     tie.close
-    (tie.spec
-    Inv-loop
-    μ-loop
-    loop-holds
-    returns
-    sub-left
-    read-word-requires
-    enum-known-next
-    loop-less
-    loop-again
-    enum-told
-    returns-2
-    enum-known-page
-    returns-3
-    returns-4)
+    (tie.spec Inv-loop μ-loop loop-holds returns sub-left (λ c κs. search needs) (λ c. search needs) loop-less
+    loop-again (λ c. search needs) returns-2 returns-3)

@@ -5,18 +5,9 @@ use Rattle.maps.specs.Pages.{isOpen}
 use Rattle.maps.proofs.pages.is_open.Statement.{statement}
 use Rattle.maps.proofs.pages.is_open.Tie as tie
 
-is-register-requires : tie.Need-is-register-requires
-is-register-requires c κs = search needs
-
 returns : tie.Need-returns
 unfolding isOpen
 returns c = rw (sym (c .before .is-register .ensures) ∙ c .if1 .taken)
-
-page-register-requires : tie.Need-page-register-requires
-page-register-requires c κs = search needs
-
-is-closed-requires : tie.Need-is-closed-requires
-is-closed-requires c κs = search needs
 
 returns-2 : tie.Need-returns-2
 unfolding isOpen
@@ -25,4 +16,4 @@ returns-2 c = rw (sym (c .before .before .before .is-register .ensures) ∙ c .b
 pub is-open-spec : {M : Type 1} → statement M
 is-open-spec =
     tie.close
-    (tie.spec is-register-requires returns page-register-requires is-closed-requires returns-2)
+    (tie.spec (λ c κs. search needs) returns (λ c κs. search needs) (λ c κs. search needs) returns-2)

@@ -4,27 +4,6 @@ use borrow.Author.Needs.{needs}
 use Rattle.maps.proofs.pages.page_register.Statement.{statement}
 use Rattle.maps.proofs.pages.page_register.Tie as tie
 
-map-number-requires : tie.Need-map-number-requires
-map-number-requires c κs = search needs
-
-cast-number : tie.Need-cast-number
-cast-number c = search needs
-
-mul-at : tie.Need-mul-at
-mul-at c = search needs
-
-cast-at : tie.Need-cast-at
-cast-at c = search needs
-
-add-at : tie.Need-add-at
-add-at c = search needs
-
-mul-result : tie.Need-mul-result
-mul-result c = search needs
-
-shared-slice-read-result : tie.Need-shared-slice-read-result
-shared-slice-read-result c = search needs
-
 returns : tie.Need-returns
 returns c = rw (← c .before .before .map-number .ensures)
 
@@ -34,13 +13,5 @@ returns-2 c = rw (← c .before .map-number .ensures, List·getD-eq-default (c .
 pub page-register-spec : {M : Type 1} → statement M
 page-register-spec =
     tie.close
-    (tie.spec
-    map-number-requires
-    cast-number
-    mul-at
-    cast-at
-    add-at
-    mul-result
-    shared-slice-read-result
-    returns
-    returns-2)
+    (tie.spec (λ c κs. search needs) (λ c. search needs) (λ c. search needs) (λ c. search needs) (λ c. search needs)
+    (λ c. search needs) (λ c. search needs) returns returns-2)

@@ -7,12 +7,10 @@ use borrow.Author.Needs.{needs}
 use borrow.Author.Tests.{eq-eqb, ne-eqb, lt-ltb, le-ltb}
 use Rattle.maps.specs.Pages.{isOpen, presence, spot, ifPresent, place}
 use Rattle.maps.specs.declared.pages.Place.{Place}
-use Rattle.maps.specs.declared.pages.Presence.{Presence}
+use Rattle.maps.specs.declared.troubles.Trouble.{Trouble}
+use Rattle.maps.specs.declared.troubles.Tested.{Tested}
 use Rattle.maps.proofs.pages.place_of.Statement.{statement}
 use Rattle.maps.proofs.pages.place_of.Tie as tie
-
-is-register-requires : tie.Need-is-register-requires
-is-register-requires c κs = search needs
 
 returns : tie.Need-returns
 unfolding place isOpen presence spot
@@ -22,24 +20,15 @@ returns-2 : tie.Need-returns-2
 unfolding place isOpen presence spot
 returns-2 c = rw (sym (c .before .before .is-register .ensures) ∙ c .before .if1 .taken, ne-eqb _ _ (c .if2 .left))
 
-page-register-requires : tie.Need-page-register-requires
-page-register-requires c κs = search needs
-
-is-closed-requires : tie.Need-is-closed-requires
-is-closed-requires c κs = search needs
-
-index-of-requires : tie.Need-index-of-requires
-index-of-requires c κs = search needs
-
 -- where an address that is no register leads
 tested : (c : tie.After-index-of)
     → let register = c .before .before .page-register .result in
     let args = c .before .before .before .before .before .before .args in
     place (args .pages .now) (args .wmap) (args .map) (args .purpose) (args .address) (args .length)
     ≡ cond (not (c .before .is-closed .result))
-    (ifPresent (cond (ltb (c .index-of .result) (args .length)) Presence.Present (Presence.Absent (register % 0o40000)))
+    (ifPresent (cond (ltb (c .index-of .result) (args .length)) Tested.Sound (Tested.Ends (Trouble.Absent (register % 0o40000))))
     (Place.Memory (c .index-of .result)))
-    Place.Closed
+    (Place.Ends Trouble.Closed)
 unfolding place isOpen presence spot
 tested c =
     rw (
@@ -61,13 +50,5 @@ returns-5 c = rw (tested (c .before .before), c .before .if3 .left, le-ltb _ _ (
 pub place-of-spec : {M : Type 1} → statement M
 place-of-spec =
     tie.close
-    (tie.spec
-    is-register-requires
-    returns
-    returns-2
-    page-register-requires
-    is-closed-requires
-    index-of-requires
-    returns-3
-    returns-4
-    returns-5)
+    (tie.spec (λ c κs. search needs) returns returns-2 (λ c κs. search needs) (λ c κs. search needs)
+    (λ c κs. search needs) returns-3 returns-4 returns-5)

@@ -6,29 +6,21 @@ use lib.Dec.{ltb}
 use borrow.Author.Tests.{lt-ltb, le-ltb}
 use borrow.Author.Needs.{needs}
 use Rattle.maps.specs.Pages.{presence}
-use Rattle.maps.specs.declared.pages.Presence.{Presence}
+use Rattle.maps.specs.declared.troubles.Trouble.{Trouble}
+use Rattle.maps.specs.declared.troubles.Tested.{Tested}
 use Rattle.maps.proofs.pages.presence_of.Statement.{statement}
 use Rattle.maps.proofs.pages.presence_of.Tie as tie
-
-is-register-requires : tie.Need-is-register-requires
-is-register-requires c κs = search needs
 
 returns : tie.Need-returns
 unfolding presence
 returns c = rw (sym (c .before .is-register .ensures) ∙ c .if1 .taken)
-
-page-register-requires : tie.Need-page-register-requires
-page-register-requires c κs = search needs
-
-index-of-requires : tie.Need-index-of-requires
-index-of-requires c κs = search needs
 
 -- what the first test leaves
 tested : (c : tie.After-index-of)
     → let register = c .before .page-register .result in
     let args = c .before .before .before .before .before .args in
     presence (args .pages .now) (args .wmap) (args .map) (args .address) (args .length)
-    ≡ cond (ltb (c .index-of .result) (args .length)) Presence.Present (Presence.Absent (register % 0o40000))
+    ≡ cond (ltb (c .index-of .result) (args .length)) Tested.Sound (Tested.Ends (Trouble.Absent (register % 0o40000)))
 unfolding presence
 tested c =
     rw (
@@ -46,10 +38,4 @@ returns-3 c = rw (tested (c .before), le-ltb _ _ (c .if2 .left))
 pub presence-of-spec : {M : Type 1} → statement M
 presence-of-spec =
     tie.close
-    (tie.spec
-    is-register-requires
-    returns
-    page-register-requires
-    index-of-requires
-    returns-2
-    returns-3)
+    (tie.spec (λ c κs. search needs) returns (λ c κs. search needs) (λ c κs. search needs) returns-2 returns-3)

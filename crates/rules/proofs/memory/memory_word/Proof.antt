@@ -5,23 +5,14 @@ use borrow.Author.Needs.{needs}
 use Rattle.rules.proofs.memory.memory_word.Statement.{statement}
 use Rattle.rules.proofs.memory.memory_word.Tie as tie
 
-weight-of-requires : tie.Need-weight-of-requires
-weight-of-requires c κs = search needs
-
 mul-result : tie.Need-mul-result
 mul-result c = rw (c .weight-of .ensures) (omega (arith, weight-lt (c .before .before .args .indirect)))
-
-mul-result-2 : tie.Need-mul-result-2
-mul-result-2 c = search needs
 
 add-result : tie.Need-add-result
 add-result c = rw (c .weight-of .ensures) (omega (arith, weight-lt (c .before .before .args .indirect)))
 
 add-result-2 : tie.Need-add-result-2
 add-result-2 c = rw (c .weight-of .ensures) (omega (arith, weight-lt (c .before .before .args .indirect)))
-
-weight-of-requires-2 : tie.Need-weight-of-requires-2
-weight-of-requires-2 c κs = search needs
 
 mul-result-3 : tie.Need-mul-result-3
 mul-result-3 c = rw (c .weight-of2 .ensures) (omega (arith, weight-lt (c .before .before .args .indirect)))
@@ -38,14 +29,5 @@ returns-2 c = rw (c .before .if1 .left, c .weight-of2 .ensures) (omega arith)
 pub memory-word-spec : {M : Type 1} → statement M
 memory-word-spec =
     tie.close
-    (tie.spec
-    weight-of-requires
-    mul-result
-    mul-result-2
-    add-result
-    add-result-2
-    weight-of-requires-2
-    mul-result-3
-    add-result-3
-    returns
-    returns-2)
+    (tie.spec (λ c κs. search needs) mul-result (λ c. search needs) add-result add-result-2 (λ c κs. search needs)
+    mul-result-3 add-result-3 returns returns-2)

@@ -10,11 +10,8 @@ returns c = rw (eq-eqb _ 0 (c .if1 .taken))
 returns-2 : tie.Need-returns-2
 returns-2 c = rw (ne-eqb _ 0 (c .before .if1 .left), lt-ltb _ _ (c .if2 .taken))
 
-add-result : tie.Need-add-result
-add-result c = search needs
-
 returns-3 : tie.Need-returns-3
 returns-3 c = rw (ne-eqb _ 0 (c .before .if1 .left), le-ltb _ _ (c .if2 .left))
 
 pub comes-low-spec : {M : Type 1} → statement M
-comes-low-spec = tie.close (tie.spec returns returns-2 add-result returns-3)
+comes-low-spec = tie.close (tie.spec returns returns-2 (λ c. search needs) returns-3)

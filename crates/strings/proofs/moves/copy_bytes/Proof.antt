@@ -9,9 +9,6 @@ use Rattle.strings.proofs.moves.copy_bytes.Tie as tie
 cast-at-most : tie.Need-cast-at-most
 cast-at-most c = omega arith
 
-at-most-requires : tie.Need-at-most-requires
-at-most-requires c κs = search needs
-
 copy-each-requires : tie.Need-copy-each-requires
 copy-each-requires c κs = (omega arith, omega arith)
 
@@ -60,21 +57,6 @@ returns c = copies-alike _ _ _ _ _ (c .before .before .before .before .before .b
 pub copy-bytes-spec : {M : Type 1} → statement M
 copy-bytes-spec =
     tie.close
-    (tie.spec
-    cast-at-most
-    at-most-requires
-    copy-each-requires
-    cast-i
-    add-i
-    cast-j
-    add-j
-    sub-words
-    copy-words-requires
-    cast-done
-    mul-done
-    add-copy-each
-    add-copy-each-2
-    sub-copy-each
-    copy-each-requires-2
-    same-length
+    (tie.spec cast-at-most (λ c κs. search needs) copy-each-requires cast-i add-i cast-j add-j sub-words
+    copy-words-requires cast-done mul-done add-copy-each add-copy-each-2 sub-copy-each copy-each-requires-2 same-length
     returns)

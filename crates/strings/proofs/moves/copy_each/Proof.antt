@@ -43,15 +43,4 @@ returns c = let e : c .before .loop .left ≡ 0 = omega arith in sym (rw e at (c
 pub copy-each-spec : {M : Type 1} → statement M
 copy-each-spec =
     tie.close
-    (tie.spec
-    Inv-loop
-    μ-loop
-    loop-holds
-    copy-one-requires
-    add-i
-    add-j
-    sub-left
-    loop-less
-    loop-again
-    same-length
-    returns)
+    (tie.spec Inv-loop μ-loop loop-holds copy-one-requires add-i add-j sub-left loop-less loop-again same-length returns)

@@ -17,29 +17,8 @@ abbrev μ-loop : tie.MeasureT-loop
 loop-holds : tie.Need-loop-holds Inv-loop μ-loop
 loop-holds c = let h = ready _ _ _ _ _ _ _ _ _ (c .before .before .pre) in record { lengths = refl; source = h .0; target = h .1; onward = λ k. refl }
 
-element-place-requires : tie.Need-element-place-requires Inv-loop μ-loop
-element-place-requires c κs = search needs
-
-purpose-of-requires : tie.Need-purpose-of-requires Inv-loop μ-loop
-purpose-of-requires c κs = search needs
-
-element-place-requires-2 : tie.Need-element-place-requires-2 Inv-loop μ-loop
-element-place-requires-2 c κs = search needs
-
-run-of-requires : tie.Need-run-of-requires Inv-loop μ-loop
-run-of-requires c κs = search needs
-
-run-of-requires-2 : tie.Need-run-of-requires-2 Inv-loop μ-loop
-run-of-requires-2 c κs = search needs
-
 copy-run-requires : tie.Need-copy-run-requires Inv-loop μ-loop
 copy-run-requires c κs = moves-inside _ _ _ _ _ _ _ _ _ _ _ _ _ _ _ (c .before .before .before .before .before .before .before .before .loop-test .taken) (c .before .before .run-of .ensures) (c .before .run-of2 .ensures) (c .before .before .before .before .before .before .before .before .before .loop .inv) (c .before .before .before .before .before .before .element-place .ensures) (rw (c .before .before .before .before .before .purpose-of .ensures) at (c .before .before .before .element-place2 .ensures))
-
-go-along-requires : tie.Need-go-along-requires Inv-loop μ-loop
-go-along-requires c κs = search needs
-
-go-along-requires-2 : tie.Need-go-along-requires-2 Inv-loop μ-loop
-go-along-requires-2 c κs = search needs
 
 sub-left : tie.Need-sub-left Inv-loop μ-loop
 sub-left c = omega (arith, c .before .before .before .before .before .before .before .run-of .ensures .within, c .before .before .before .before .before .before .run-of2 .ensures .within)
@@ -60,20 +39,6 @@ returns c = let e : c .before .loop .left ≡ 0 = omega arith in λ k. rw e at (
 pub copy-elements-spec : {M : Type 1} → statement M
 copy-elements-spec =
     tie.close
-    (tie.spec
-    Inv-loop
-    μ-loop
-    loop-holds
-    element-place-requires
-    purpose-of-requires
-    element-place-requires-2
-    run-of-requires
-    run-of-requires-2
-    copy-run-requires
-    go-along-requires
-    go-along-requires-2
-    sub-left
-    loop-less
-    loop-again
-    same-length
-    returns)
+    (tie.spec Inv-loop μ-loop loop-holds (λ c κs. search needs) (λ c κs. search needs) (λ c κs. search needs)
+    (λ c κs. search needs) (λ c κs. search needs) copy-run-requires (λ c κs. search needs) (λ c κs. search needs)
+    sub-left loop-less loop-again same-length returns)

@@ -4,9 +4,6 @@ use borrow.Author.Needs.{needs}
 use Rattle.strings.proofs.moves.copy_one.Statement.{statement}
 use Rattle.strings.proofs.moves.copy_one.Tie as tie
 
-enum-told : tie.Need-enum-told
-enum-told c = search needs
-
 mul-memory : tie.Need-mul-memory
 mul-memory c = let h = rw (c .enum-told .given .1) at (c .before .before .before .pre) in omega arith
 
@@ -19,41 +16,17 @@ mul-memory-2 c = let h = rw (c .before .enum-told .given .1) at (c .before .befo
 slice-write-memory : tie.Need-slice-write-memory
 slice-write-memory c = let h = rw (c .before .enum-told .given .1) at (c .before .before .before .before .pre) in omega arith
 
-enum-told-2 : tie.Need-enum-told-2
-enum-told-2 c = search needs
-
-mul-byte-of : tie.Need-mul-byte-of
-mul-byte-of c = search needs
-
 slice-read-byte-of : tie.Need-slice-read-byte-of
 slice-read-byte-of c = let h = rw (c .before .enum-told2 .given .1) at (c .before .before .before .before .pre) in omega arith
-
-byte-of-requires : tie.Need-byte-of-requires
-byte-of-requires c κs = search needs
-
-mul-with-byte : tie.Need-mul-with-byte
-mul-with-byte c = search needs
 
 slice-read-with-byte : tie.Need-slice-read-with-byte
 slice-read-with-byte c = let h = rw (c .before .before .before .enum-told2 .given .1) at (c .before .before .before .before .before .before .pre) in omega arith
 
-with-byte-requires : tie.Need-with-byte-requires
-with-byte-requires c κs = search needs
-
-mul-memory-3 : tie.Need-mul-memory-3
-mul-memory-3 c = search needs
-
 slice-write-memory-2 : tie.Need-slice-write-memory-2
 slice-write-memory-2 c = let h = rw (c .before .before .before .before .enum-told2 .given .1) at (c .before .before .before .before .before .before .before .pre) in omega arith
 
-same-length : tie.Need-same-length
-same-length c = search needs
-
 returns : tie.Need-returns
 returns c = rw (c .before .enum-told .given .1)
-
-same-length-2 : tie.Need-same-length-2
-same-length-2 c = search needs
 
 returns-2 : tie.Need-returns-2
 returns-2 c = rw (c .before .before .before .before .enum-told2 .given .1, c .with-byte .ensures, c .before .before .byte-of .ensures)
@@ -61,22 +34,7 @@ returns-2 c = rw (c .before .before .before .before .enum-told2 .given .1, c .wi
 pub copy-one-spec : {M : Type 1} → statement M
 copy-one-spec =
     tie.close
-    (tie.spec
-    enum-told
-    mul-memory
-    slice-read-memory
-    mul-memory-2
-    slice-write-memory
-    enum-told-2
-    mul-byte-of
-    slice-read-byte-of
-    byte-of-requires
-    mul-with-byte
-    slice-read-with-byte
-    with-byte-requires
-    mul-memory-3
-    slice-write-memory-2
-    same-length
-    returns
-    same-length-2
+    (tie.spec (λ c. search needs) mul-memory slice-read-memory mul-memory-2 slice-write-memory (λ c. search needs)
+    (λ c. search needs) slice-read-byte-of (λ c κs. search needs) (λ c. search needs) slice-read-with-byte
+    (λ c κs. search needs) (λ c. search needs) slice-write-memory-2 (λ c. search needs) returns (λ c. search needs)
     returns-2)

@@ -3,20 +3,11 @@ use borrow.Author.Needs.{needs}
 use Rattle.strings.proofs.moves.copy_run.Statement.{statement}
 use Rattle.strings.proofs.moves.copy_run.Tie as tie
 
-lie-alike-requires : tie.Need-lie-alike-requires
-lie-alike-requires c κs = search needs
-
 copy-bytes-requires : tie.Need-copy-bytes-requires
 copy-bytes-requires c κs = let h = c .before .before .lie-alike .ensures (c .before .if1 .taken) in let p = rw (h .0) at (c .before .before .before .before .pre) in (h .1, p .0, p .1)
 
-enum-told : tie.Need-enum-told
-enum-told c = search needs
-
 copy-words-requires : tie.Need-copy-words-requires
 copy-words-requires c κs = rw (c .before .enum-told .given .1) at (c .before .before .before .before .before .before .pre)
-
-enum-told-2 : tie.Need-enum-told-2
-enum-told-2 c = search needs
 
 copy-each-requires : tie.Need-copy-each-requires
 copy-each-requires c κs = rw (c .before .enum-told2 .given .1) at (c .before .before .before .before .before .before .pre)
@@ -42,16 +33,5 @@ returns-3 c = rw (c .before .before .before .before .enum-told2 .given .1) (c .b
 pub copy-run-spec : {M : Type 1} → statement M
 copy-run-spec =
     tie.close
-    (tie.spec
-    lie-alike-requires
-    copy-bytes-requires
-    enum-told
-    copy-words-requires
-    enum-told-2
-    copy-each-requires
-    same-length
-    returns
-    same-length-2
-    returns-2
-    same-length-3
-    returns-3)
+    (tie.spec (λ c κs. search needs) copy-bytes-requires (λ c. search needs) copy-words-requires (λ c. search needs)
+    copy-each-requires same-length returns same-length-2 returns-2 same-length-3 returns-3)

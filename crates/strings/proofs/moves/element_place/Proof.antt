@@ -3,6 +3,7 @@ use mathlib.Core.List.{List}
 use Rattle.maps.specs.declared.pages.Purpose.{Purpose}
 use Rattle.maps.specs.declared.pages.Map.{Map}
 use Rattle.maps.specs.declared.pages.Place.{Place}
+use Rattle.maps.specs.declared.troubles.Trouble.{Trouble}
 use Rattle.maps.proofs.Laws.{place-below}
 use Rattle.maps.specs.Pages.{place}
 use Rattle.strings.proofs.Ranges.{never}
@@ -27,47 +28,14 @@ not-a e = never (cc)
 not-b : {X : Type 0} {j : ℕ} → Place.B ≡ Place.Memory j → X
 not-b e = never (cc)
 
-not-closed : {X : Type 0} {j : ℕ} → Place.Closed ≡ Place.Memory j → X
-not-closed e = never (cc)
-
-not-absent : {X : Type 0} {i j : ℕ} → Place.Absent i ≡ Place.Memory j → X
-not-absent e = never (cc)
-
-word-at-requires : tie.Need-word-at-requires
-word-at-requires c κs = search needs
-
-place-of-requires : tie.Need-place-of-requires
-place-of-requires c κs = search needs
-
-enum-known-index : tie.Need-enum-known-index
-enum-known-index c = search needs
-
-enum-told : tie.Need-enum-told
-enum-told c = search needs
-
-enum-told-2 : tie.Need-enum-told-2
-enum-told-2 c = search needs
+not-trouble : {X : Type 0} {t : Trouble} {j : ℕ} → Place.Ends t ≡ Place.Memory j → X
+not-trouble e = never (cc)
 
 mul-result : tie.Need-mul-result
 mul-result c = omega (arith, place-below _ _ _ _ _ _ _ (sym (c .before .before .before .before .before .place-of .ensures) ∙ c .before .before .before .index .given .1))
 
-cast-result : tie.Need-cast-result
-cast-result c = search needs
-
 add-result : tie.Need-add-result
 add-result c = omega (arith, place-below _ _ _ _ _ _ _ (sym (c .before .before .before .before .before .place-of .ensures) ∙ c .before .before .before .index .given .1))
-
-enum-told-3 : tie.Need-enum-told-3
-enum-told-3 c = search needs
-
-enum-told-4 : tie.Need-enum-told-4
-enum-told-4 c = search needs
-
-enum-told-5 : tie.Need-enum-told-5
-enum-told-5 c = search needs
-
-enum-told-6 : tie.Need-enum-told-6
-enum-told-6 c = search needs
 
 returns : tie.Need-returns
 returns c = λ index e. rw (c .enum-told .given .1) (same (told _ _ _ _ _ (c .before .before .before .before .before .before .word-at .ensures) (c .before .before .before .before .before .place-of .ensures) (c .before .before .before .index .given .1) e))
@@ -82,30 +50,11 @@ returns-4 : tie.Need-returns-4
 returns-4 c = λ index e. not-b (told _ _ _ _ _ (c .before .before .before .word-at .ensures) (c .before .before .place-of .ensures) (c .enum-told4 .given .1) e)
 
 returns-5 : tie.Need-returns-5
-returns-5 c = λ index e. not-closed (told _ _ _ _ _ (c .before .before .before .word-at .ensures) (c .before .before .place-of .ensures) (c .enum-told5 .given .1) e)
-
-returns-6 : tie.Need-returns-6
-returns-6 c = λ index e. not-absent (told _ _ _ _ _ (c .before .before .before .word-at .ensures) (c .before .before .place-of .ensures) (c .enum-told6 .given .1) e)
+returns-5 c = λ index e. not-trouble (told _ _ _ _ _ (c .before .before .before .word-at .ensures) (c .before .before .place-of .ensures) (c .enum-told5 .given .1) e)
 
 pub element-place-spec : {M : Type 1} → statement M
 element-place-spec =
     tie.close
-    (tie.spec
-    word-at-requires
-    place-of-requires
-    enum-known-index
-    enum-told
-    enum-told-2
-    mul-result
-    cast-result
-    add-result
-    enum-told-3
-    enum-told-4
-    enum-told-5
-    enum-told-6
-    returns
-    returns-2
-    returns-3
-    returns-4
-    returns-5
-    returns-6)
+    (tie.spec (λ c κs. search needs) (λ c κs. search needs) (λ c. search needs) (λ c. search needs) (λ c. search needs)
+    mul-result (λ c. search needs) add-result (λ c. search needs) (λ c. search needs) (λ c. search needs) returns
+    returns-2 returns-3 returns-4 returns-5)

@@ -56,19 +56,5 @@ returns-2 c = let e : c .before .loop .left ≡ 0 = omega arith in sym (rw e at 
 pub fill-words-spec : {M : Type 1} → statement M
 fill-words-spec =
     tie.close
-    (tie.spec
-    Inv-loop
-    μ-loop
-    returns
-    add-j
-    mul-v
-    slice-read-v
-    loop-holds
-    mul-memory
-    slice-write-memory
-    add-j-2
-    sub-left
-    loop-less
-    loop-again
-    same-length
-    returns-2)
+    (tie.spec Inv-loop μ-loop returns add-j mul-v slice-read-v loop-holds mul-memory slice-write-memory add-j-2 sub-left
+    loop-less loop-again same-length returns-2)

@@ -5,12 +5,6 @@ use borrow.Author.Tests.{eqb-true}
 use Rattle.strings.proofs.moves.lie_alike.Statement.{statement}
 use Rattle.strings.proofs.moves.lie_alike.Tie as tie
 
-enum-told : tie.Need-enum-told
-enum-told c = search needs
-
-enum-told-2 : tie.Need-enum-told-2
-enum-told-2 c = search needs
-
 returns : tie.Need-returns
 returns c = λ e. absurd (false≢true e)
 
@@ -18,4 +12,4 @@ returns-2 : tie.Need-returns-2
 returns-2 c = λ e. (c .enum-told2 .given .1, eqb-true _ _ e)
 
 pub lie-alike-spec : {M : Type 1} → statement M
-lie-alike-spec = tie.close (tie.spec enum-told enum-told-2 returns returns-2)
+lie-alike-spec = tie.close (tie.spec (λ c. search needs) (λ c. search needs) returns returns-2)

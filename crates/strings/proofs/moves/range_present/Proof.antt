@@ -20,26 +20,8 @@ abbrev μ-loop : tie.MeasureT-loop
 loop-holds : tie.Need-loop-holds Inv-loop μ-loop
 loop-holds c = (c .before .before .pre, c .before .before .fits .at .fits, λ k. refl)
 
-run-of-requires : tie.Need-run-of-requires Inv-loop μ-loop
-run-of-requires c κs = search needs
-
 sub-go-along : tie.Need-sub-go-along Inv-loop μ-loop
 sub-go-along c = omega (arith, c .run-of .ensures .some (c .before .loop-test .taken))
-
-go-along-requires : tie.Need-go-along-requires Inv-loop μ-loop
-go-along-requires c κs = search needs
-
-word-at-requires : tie.Need-word-at-requires Inv-loop μ-loop
-word-at-requires c κs = search needs
-
-presence-of-requires : tie.Need-presence-of-requires Inv-loop μ-loop
-presence-of-requires c κs = search needs
-
-enum-told : tie.Need-enum-told Inv-loop μ-loop
-enum-told c = search needs
-
-go-along-requires-2 : tie.Need-go-along-requires-2 Inv-loop μ-loop
-go-along-requires-2 c κs = search needs
 
 sub-left : tie.Need-sub-left Inv-loop μ-loop
 sub-left c = omega (arith, c .before .before .before .before .before .before .run-of .ensures .within)
@@ -50,11 +32,8 @@ loop-less c = omega (arith, c .before .before .before .before .before .before .r
 loop-again : tie.Need-loop-again Inv-loop μ-loop
 loop-again c = rw (c .go-along2 .ensures) (touches-past _ _ _ _ _ (c .before .before .before .before .before .before .before .loop-test .taken) (c .before .before .before .before .before .before .run-of .ensures) (c .before .before .before .before .before .before .before .before .loop .inv .0), along-fits (c .before .before .before .before .before .before .before .before .before .before .before .args .u) (c .before .before .before .before .before .before .before .before .loop .next) (c .before .before .before .before .before .before .run-of .result), λ k. c .before .before .before .before .before .before .before .before .loop .inv .2 k ∙ presents-past _ _ _ _ _ _ _ k _ (c .before .before .before .before .before .before .before .loop-test .taken) (c .before .before .before .before .before .before .run-of .ensures) (c .before .before .before .before .before .before .before .before .loop .inv .0) (c .before .before .before .before .before .before .before .before .loop .inv .1) (c .before .before .before .before .before .go-along .ensures) (c .before .before .before .before .word-at .ensures) (c .before .before .before .presence-of .ensures) (c .before .enum-told .given .1))
 
-enum-known-page : tie.Need-enum-known-page Inv-loop μ-loop
-enum-known-page c = search needs
-
 returns : tie.Need-returns Inv-loop μ-loop
-returns c = λ k. c .before .before .before .before .before .before .before .before .loop .inv .2 k ∙ presents-past _ _ _ _ _ _ _ k _ (c .before .before .before .before .before .before .before .loop-test .taken) (c .before .before .before .before .before .before .run-of .ensures) (c .before .before .before .before .before .before .before .before .loop .inv .0) (c .before .before .before .before .before .before .before .before .loop .inv .1) (c .before .before .before .before .before .go-along .ensures) (c .before .before .before .before .word-at .ensures) (c .before .before .before .presence-of .ensures) (c .before .page .given .1)
+returns c = λ k. c .before .before .before .before .before .before .before .before .loop .inv .2 k ∙ presents-past _ _ _ _ _ _ _ k _ (c .before .before .before .before .before .before .before .loop-test .taken) (c .before .before .before .before .before .before .run-of .ensures) (c .before .before .before .before .before .before .before .before .loop .inv .0) (c .before .before .before .before .before .before .before .before .loop .inv .1) (c .before .before .before .before .before .go-along .ensures) (c .before .before .before .before .word-at .ensures) (c .before .before .before .presence-of .ensures) (c .before .t .given .1)
 
 returns-2 : tie.Need-returns-2 Inv-loop μ-loop
 unfolding presentAll
@@ -63,20 +42,6 @@ returns-2 c = let e : c .before .loop .left ≡ 0 = omega arith in λ k. rw e at
 pub range-present-spec : {M : Type 1} → statement M
 range-present-spec =
     tie.close
-    (tie.spec
-    Inv-loop
-    μ-loop
-    loop-holds
-    run-of-requires
-    sub-go-along
-    go-along-requires
-    word-at-requires
-    presence-of-requires
-    enum-told
-    go-along-requires-2
-    sub-left
-    loop-less
-    loop-again
-    enum-known-page
-    returns
-    returns-2)
+    (tie.spec Inv-loop μ-loop loop-holds (λ c κs. search needs) sub-go-along (λ c κs. search needs)
+    (λ c κs. search needs) (λ c κs. search needs) (λ c. search needs) (λ c κs. search needs) sub-left loop-less
+    loop-again (λ c. search needs) returns returns-2)

@@ -6,9 +6,6 @@ use Rattle.strings.proofs.moves.ranges_open.Tie as tie
 range-open-requires : tie.Need-range-open-requires
 range-open-requires c κs = c .before .pre .0
 
-purpose-of-requires : tie.Need-purpose-of-requires
-purpose-of-requires c κs = search needs
-
 range-open-requires-2 : tie.Need-range-open-requires-2
 range-open-requires-2 c κs = c .before .before .before .before .pre .1
 
@@ -21,4 +18,4 @@ returns-2 c = λ m k. rw (c .before .range-open .ensures, c .if1 .left)
 pub ranges-open-spec : {M : Type 1} → statement M
 ranges-open-spec =
     tie.close
-    (tie.spec range-open-requires purpose-of-requires range-open-requires-2 returns returns-2)
+    (tie.spec range-open-requires (λ c κs. search needs) range-open-requires-2 returns returns-2)

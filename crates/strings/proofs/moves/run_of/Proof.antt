@@ -4,24 +4,6 @@ use borrow.Author.Needs.{needs}
 use Rattle.strings.proofs.moves.run_of.Statement.{statement}
 use Rattle.strings.proofs.moves.run_of.Tie as tie
 
-enum-told : tie.Need-enum-told
-enum-told c = search needs
-
-sub-at-most : tie.Need-sub-at-most
-sub-at-most c = search needs
-
-at-most-requires : tie.Need-at-most-requires
-at-most-requires c κs = search needs
-
-enum-told-2 : tie.Need-enum-told-2
-enum-told-2 c = search needs
-
-sub-at-most-2 : tie.Need-sub-at-most-2
-sub-at-most-2 c = search needs
-
-at-most-requires-2 : tie.Need-at-most-requires-2
-at-most-requires-2 c κs = search needs
-
 returns : tie.Need-returns
 returns c = rw (c .before .enum-told .given .1) (record { within = c .at-most .ensures .1; page = omega (arith, c .at-most .ensures .0); some = λ l. c .at-most .ensures .2 (omega arith) l })
 
@@ -31,12 +13,5 @@ returns-2 c = rw (c .before .enum-told2 .given .1) (record { within = c .at-most
 pub run-of-spec : {M : Type 1} → statement M
 run-of-spec =
     tie.close
-    (tie.spec
-    enum-told
-    sub-at-most
-    at-most-requires
-    enum-told-2
-    sub-at-most-2
-    at-most-requires-2
-    returns
-    returns-2)
+    (tie.spec (λ c. search needs) (λ c. search needs) (λ c κs. search needs) (λ c. search needs) (λ c. search needs)
+    (λ c κs. search needs) returns returns-2)

@@ -8,27 +8,6 @@ use borrow.Author.Needs.{needs}
 use Rattle.strings.proofs.moves.touches_range.Statement.{statement}
 use Rattle.strings.proofs.moves.touches_range.Tie as tie
 
-enum-told : tie.Need-enum-told
-enum-told c = search needs
-
-enum-told-2 : tie.Need-enum-told-2
-enum-told-2 c = search needs
-
-comes-low-requires : tie.Need-comes-low-requires
-comes-low-requires c κs = search needs
-
-enum-told-3 : tie.Need-enum-told-3
-enum-told-3 c = search needs
-
-comes-low-requires-2 : tie.Need-comes-low-requires-2
-comes-low-requires-2 c κs = search needs
-
-enum-told-4 : tie.Need-enum-told-4
-enum-told-4 c = search needs
-
-enum-told-5 : tie.Need-enum-told-5
-enum-told-5 c = search needs
-
 returns : tie.Need-returns
 returns c = rw (c .before .before .before .enum-told .given .1, c .before .enum-told2 .given .1) (c .comes-low .ensures ∙ sym (touches-ends _ _ _))
 
@@ -44,15 +23,5 @@ returns-4 c = rw (c .enum-told5 .given .1) (sym (touches-data _ _ _ _ (λ x. ref
 pub touches-range-spec : {M : Type 1} → statement M
 touches-range-spec =
     tie.close
-    (tie.spec
-    enum-told
-    enum-told-2
-    comes-low-requires
-    enum-told-3
-    comes-low-requires-2
-    enum-told-4
-    enum-told-5
-    returns
-    returns-2
-    returns-3
-    returns-4)
+    (tie.spec (λ c. search needs) (λ c. search needs) (λ c κs. search needs) (λ c. search needs) (λ c κs. search needs)
+    (λ c. search needs) (λ c. search needs) returns returns-2 returns-3 returns-4)

@@ -6,27 +6,6 @@ use borrow.Author.Needs.{needs}
 use Rattle.strings.proofs.strings.compare_pair.Statement.{statement}
 use Rattle.strings.proofs.strings.compare_pair.Tie as tie
 
-get-element-requires : tie.Need-get-element-requires
-get-element-requires c κs = search needs
-
-enum-known-v : tie.Need-enum-known-v
-enum-known-v c = search needs
-
-get-element-requires-2 : tie.Need-get-element-requires-2
-get-element-requires-2 c κs = search needs
-
-enum-known-w : tie.Need-enum-known-w
-enum-known-w c = search needs
-
-order-elements-requires : tie.Need-order-elements-requires
-order-elements-requires c κs = search needs
-
-enum-known-e : tie.Need-enum-known-e
-enum-known-e c = search needs
-
-enum-known-e-2 : tie.Need-enum-known-e-2
-enum-known-e-2 c = search needs
-
 returns : tie.Need-returns
 unfolding Compares
 returns c = λ k. rw (had-value (c .before .before .before .before .before .before .before .before .get-element .ensures) (c .before .before .before .before .before .before .v .given .1) _, had-value (c .before .before .before .before .get-element2 .ensures) (c .before .before .w .given .1) _, c .order-elements .ensures)
@@ -42,14 +21,5 @@ returns-3 c = λ k. had-trouble (c .before .before .before .get-element .ensures
 pub compare-pair-spec : {M : Type 1} → statement M
 compare-pair-spec =
     tie.close
-    (tie.spec
-    get-element-requires
-    enum-known-v
-    get-element-requires-2
-    enum-known-w
-    order-elements-requires
-    enum-known-e
-    enum-known-e-2
-    returns
-    returns-2
-    returns-3)
+    (tie.spec (λ c κs. search needs) (λ c. search needs) (λ c κs. search needs) (λ c. search needs)
+    (λ c κs. search needs) (λ c. search needs) (λ c. search needs) returns returns-2 returns-3)

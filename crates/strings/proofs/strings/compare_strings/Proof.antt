@@ -38,35 +38,8 @@ ended c =
     (λ w. rw (w .5, stopped _ (args .u) end _ _ (at .left) _ _ (omega (arith, w .0 .left)) (w .1 .ensures) (w .3 .given .1)) (stopping (w .3 .given .0 .0) refl))))
     (c .if1 .came)
 
-go-along-requires : tie.Need-go-along-requires Inv-loop μ-loop
-go-along-requires c κs = search needs
-
-go-along-requires-2 : tie.Need-go-along-requires-2 Inv-loop μ-loop
-go-along-requires-2 c κs = search needs
-
 loop-holds : tie.Need-loop-holds Inv-loop μ-loop
 loop-holds c = rw (c .before .go-along .ensures, c .go-along2 .ensures)
-
-compare-pair-requires : tie.Need-compare-pair-requires Inv-loop μ-loop
-compare-pair-requires c κs = search needs
-
-enum-known-order : tie.Need-enum-known-order Inv-loop μ-loop
-enum-known-order c = search needs
-
-enum-told : tie.Need-enum-told Inv-loop μ-loop
-enum-told c = search needs
-
-enum-told-2 : tie.Need-enum-told-2 Inv-loop μ-loop
-enum-told-2 c = search needs
-
-enum-told-3 : tie.Need-enum-told-3 Inv-loop μ-loop
-enum-told-3 c = search needs
-
-go-along-requires-3 : tie.Need-go-along-requires-3 Inv-loop μ-loop
-go-along-requires-3 c κs = search needs
-
-go-along-requires-4 : tie.Need-go-along-requires-4 Inv-loop μ-loop
-go-along-requires-4 c κs = search needs
 
 sub-left : tie.Need-sub-left Inv-loop μ-loop
 sub-left c = omega arith
@@ -81,38 +54,13 @@ loop-again c =
     rw (c .before .go-along3 .ensures, c .go-along4 .ensures)
     (sym (rw (c .before .before .enum-told3 .given .1) at (ordered _ (args .u) (along (args .u) (args .r .b) (args .count)) _ _ (at .left) _ _ (omega arith) (c .before .before .before .before .before .before .before .compare-pair .ensures) (c .before .before .before .before .before .order .given .1))) ∙ at .inv)
 
-enum-known-t : tie.Need-enum-known-t Inv-loop μ-loop
-enum-known-t c = search needs
-
-go-along-requires-5 : tie.Need-go-along-requires-5 Inv-loop μ-loop
-go-along-requires-5 c κs = search needs
-
-conclude-requires : tie.Need-conclude-requires Inv-loop μ-loop
-conclude-requires c κs = search needs
-
 returns : tie.Need-returns Inv-loop μ-loop
 returns c = rw (← c .before .before .before .loop .inv, c .conclude .ensures, c .before .go-along5 .ensures) (ended (c .before .before))
 
 pub compare-strings-spec : {M : Type 1} → statement M
 compare-strings-spec =
     tie.close
-    (tie.spec
-    Inv-loop
-    μ-loop
-    go-along-requires
-    go-along-requires-2
-    loop-holds
-    compare-pair-requires
-    enum-known-order
-    enum-told
-    enum-told-2
-    enum-told-3
-    go-along-requires-3
-    go-along-requires-4
-    sub-left
-    loop-less
-    loop-again
-    enum-known-t
-    go-along-requires-5
-    conclude-requires
-    returns)
+    (tie.spec Inv-loop μ-loop (λ c κs. search needs) (λ c κs. search needs) loop-holds (λ c κs. search needs)
+    (λ c. search needs) (λ c. search needs) (λ c. search needs) (λ c. search needs) (λ c κs. search needs)
+    (λ c κs. search needs) sub-left loop-less loop-again (λ c. search needs) (λ c κs. search needs)
+    (λ c κs. search needs) returns)

@@ -3,18 +3,6 @@ use borrow.Author.Needs.{needs}
 use Rattle.word.proofs.bits.with_byte.Statement.{statement}
 use Rattle.word.proofs.bits.with_byte.Tie as tie
 
-mul-result : tie.Need-mul-result
-mul-result c = search needs
-
-add-result : tie.Need-add-result
-add-result c = search needs
-
-mul-result-2 : tie.Need-mul-result-2
-mul-result-2 c = search needs
-
-add-result-2 : tie.Need-add-result-2
-add-result-2 c = search needs
-
 returns : tie.Need-returns
 returns c = rw (c .if1 .taken)
 
@@ -23,4 +11,4 @@ returns-2 c = rw (c .if1 .left)
 
 pub with-byte-spec : {M : Type 1} → statement M
 with-byte-spec =
-    tie.close (tie.spec mul-result add-result mul-result-2 add-result-2 returns returns-2)
+    tie.close (tie.spec (λ c. search needs) (λ c. search needs) (λ c. search needs) (λ c. search needs) returns returns-2)

@@ -17,15 +17,6 @@ Inv-loop kind n b a o count d₀ over₀ i₀ d over i =
 abbrev μ-loop : tie.MeasureT-loop
 μ-loop kind n b a o count d₀ over₀ i₀ d over i = count - i
 
-places-of-requires : tie.Need-places-of-requires Inv-loop μ-loop
-places-of-requires c κs = search needs
-
-join-requires : tie.Need-join-requires Inv-loop μ-loop
-join-requires c κs = search needs
-
-o-before-requires : tie.Need-o-before-requires Inv-loop μ-loop
-o-before-requires c κs = search needs
-
 loop-holds : tie.Need-loop-holds Inv-loop μ-loop
 loop-holds c =
     let h : c .before .join .result < 2 ^ 32 = omega arith in
@@ -36,12 +27,6 @@ loop-holds c =
       c .o-before .ensures ∙ sym (overflowed-none kind (c .before .join .result) (c .before .before .before .args .o)),
       h,
     )
-
-o-after-requires : tie.Need-o-after-requires Inv-loop μ-loop
-o-after-requires c κs = search needs
-
-place-requires : tie.Need-place-requires Inv-loop μ-loop
-place-requires c κs = search needs
 
 add-i : tie.Need-add-i Inv-loop μ-loop
 add-i c = omega arith
@@ -77,18 +62,5 @@ returns c =
 pub long-shift-spec : {M : Type 1} → statement M
 long-shift-spec =
     tie.close
-    (tie.spec
-    Inv-loop
-    μ-loop
-    places-of-requires
-    join-requires
-    o-before-requires
-    loop-holds
-    o-after-requires
-    place-requires
-    add-i
-    loop-less
-    loop-again
-    cast-t12
-    cast-t14
-    returns)
+    (tie.spec Inv-loop μ-loop (λ c κs. search needs) (λ c κs. search needs) (λ c κs. search needs) loop-holds
+    (λ c κs. search needs) (λ c κs. search needs) add-i loop-less loop-again cast-t12 cast-t14 returns)

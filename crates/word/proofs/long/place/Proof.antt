@@ -15,54 +15,6 @@ use Rattle.word.specs.Long.{moved}
 use Rattle.word.proofs.long.place.Statement.{statement}
 use Rattle.word.proofs.long.place.Tie as tie
 
-enum-told : tie.Need-enum-told
-enum-told c = search needs
-
-mul-result : tie.Need-mul-result
-mul-result c = search needs
-
-mul-result-2 : tie.Need-mul-result-2
-mul-result-2 c = search needs
-
-add-result : tie.Need-add-result
-add-result c = search needs
-
-enum-told-2 : tie.Need-enum-told-2
-enum-told-2 c = search needs
-
-mul-result-3 : tie.Need-mul-result-3
-mul-result-3 c = search needs
-
-enum-told-3 : tie.Need-enum-told-3
-enum-told-3 c = search needs
-
-mul-result-4 : tie.Need-mul-result-4
-mul-result-4 c = search needs
-
-add-result-2 : tie.Need-add-result-2
-add-result-2 c = search needs
-
-enum-told-4 : tie.Need-enum-told-4
-enum-told-4 c = search needs
-
-mul-result-5 : tie.Need-mul-result-5
-mul-result-5 c = search needs
-
-add-result-3 : tie.Need-add-result-3
-add-result-3 c = search needs
-
-enum-told-5 : tie.Need-enum-told-5
-enum-told-5 c = search needs
-
-enum-told-6 : tie.Need-enum-told-6
-enum-told-6 c = search needs
-
-mul-result-6 : tie.Need-mul-result-6
-mul-result-6 c = search needs
-
-add-result-4 : tie.Need-add-result-4
-add-result-4 c = search needs
-
 asr-one : (d : ℕ) → d < 2 ^ 32 → bitsOf w32 (shrZ (signed w32 d) 2) ≡ d / 2 ^ 31 * 2 ^ 31 + d / 2
 asr-one d h = at (ltb d (2 ^ 31)) refl
   where
@@ -97,26 +49,7 @@ returns-6 c = rw (c .enum-told6 .given .1) (omega arith)
 pub place-spec : {M : Type 1} → statement M
 place-spec =
     tie.close
-    (tie.spec
-    enum-told
-    mul-result
-    mul-result-2
-    add-result
-    enum-told-2
-    mul-result-3
-    enum-told-3
-    mul-result-4
-    add-result-2
-    enum-told-4
-    mul-result-5
-    add-result-3
-    enum-told-5
-    enum-told-6
-    mul-result-6
-    add-result-4
-    returns
-    returns-2
-    returns-3
-    returns-4
-    returns-5
-    returns-6)
+    (tie.spec (λ c. search needs) (λ c. search needs) (λ c. search needs) (λ c. search needs) (λ c. search needs)
+    (λ c. search needs) (λ c. search needs) (λ c. search needs) (λ c. search needs) (λ c. search needs)
+    (λ c. search needs) (λ c. search needs) (λ c. search needs) (λ c. search needs) (λ c. search needs)
+    (λ c. search needs) returns returns-2 returns-3 returns-4 returns-5 returns-6)

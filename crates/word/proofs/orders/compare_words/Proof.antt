@@ -22,12 +22,6 @@ less : {a b : ℕ} {x y : ℤ} {t : Bool} → Fits w16 a → Fits w16 b → x �
     → ltZ (toZ w16 (ofZ w16 x)) (toZ w16 (ofZ w16 y)) ≡ t → ltZ (signed w16 a) (signed w16 b) ≡ t
 less {a} {b} {x} {y} f g d e h = rw (kept a x f d, kept b y g e) at h
 
-word-value-requires : tie.Need-word-value-requires
-word-value-requires c κs = search needs
-
-word-value-requires-2 : tie.Need-word-value-requires-2
-word-value-requires-2 c κs = search needs
-
 module _ (c : tie.After-word-value2) where
   abbrev start : tie.Start
   start = c .before .before
@@ -58,4 +52,4 @@ returns-3 c = rw (first-less (c .before .before) (c .before .if1 .left), second-
 
 pub compare-words-spec : {M : Type 1} → statement M
 compare-words-spec =
-    tie.close (tie.spec word-value-requires word-value-requires-2 returns returns-2 returns-3)
+    tie.close (tie.spec (λ c κs. search needs) (λ c κs. search needs) returns returns-2 returns-3)

@@ -23,9 +23,6 @@ dividend c = joined (c .args .b) (c .args .a)
 dividend-fits : (c : tie.Start) → dividend c < 2 ^ 32
 dividend-fits c = omega arith
 
-join-requires : tie.Need-join-requires
-join-requires c κs = search needs
-
 returns : tie.Need-returns
 unfolding divided
 returns c = rw (c .if1 .taken)
@@ -33,12 +30,6 @@ returns c = rw (c .if1 .taken)
 returns-2 : tie.Need-returns-2
 unfolding divided
 returns-2 c = rw (c .before .if2 .taken, sym (c .before .before .before .join .ensures) ∙ eqb-true _ _ (c .if3 .taken))
-
-double-value-requires : tie.Need-double-value-requires
-double-value-requires c κs = search needs
-
-word-value-requires : tie.Need-word-value-requires
-word-value-requires c κs = search needs
 
 z-read : (c : tie.After-double-value)
     → toZ w32 (ofZ w32 (c .double-value .result)) ≡ signed w32 (dividend (c .before .before .before .before))
@@ -80,11 +71,5 @@ returns-3 c =
 pub divide-spec : {M : Type 1} → statement M
 divide-spec =
     tie.close
-    (tie.spec
-    join-requires
-    returns
-    returns-2
-    double-value-requires
-    word-value-requires
-    division-requires
+    (tie.spec (λ c κs. search needs) returns returns-2 (λ c κs. search needs) (λ c κs. search needs) division-requires
     returns-3)

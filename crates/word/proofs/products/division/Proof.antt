@@ -73,12 +73,4 @@ returns-3 c =
 pub division-spec : {M : Type 1} → statement M
 division-spec =
     tie.close
-    (tie.spec
-    cast-d
-    div-q
-    returns
-    returns-2
-    word-of-requires
-    rem-word-of
-    word-of-requires-2
-    returns-3)
+    (tie.spec cast-d div-q returns returns-2 word-of-requires rem-word-of word-of-requires-2 returns-3)

@@ -12,17 +12,11 @@ use borrow.Author.Needs.{needs}
 use Rattle.word.proofs.products.multiply.Statement.{statement}
 use Rattle.word.proofs.products.multiply.Tie as tie
 
-word-value-requires : tie.Need-word-value-requires
-word-value-requires c κs = search needs
-
 x-fits : (c : tie.After-word-value) → SFits w16 (c .word-value .result)
 x-fits c = record { sfits = c .word-value .ok }
 
 cast-x : tie.Need-cast-x
 cast-x c = rw (toZ-ofZ w16 _ (x-fits c)) (wider _ (x-fits c))
-
-word-value-requires-2 : tie.Need-word-value-requires-2
-word-value-requires-2 c κs = search needs
 
 y-fits : (c : tie.After-word-value2) → SFits w16 (c .word-value2 .result)
 y-fits c = record { sfits = c .word-value2 .ok }
@@ -34,15 +28,6 @@ mul-double-bits : tie.Need-mul-double-bits
 mul-double-bits c =
     rw (read-wider _ (x-fits (c .before)), read-wider _ (y-fits c))
     (product-fits _ _ (x-fits (c .before)) (y-fits c))
-
-double-bits-requires : tie.Need-double-bits-requires
-double-bits-requires c κs = search needs
-
-cast-t9 : tie.Need-cast-t9
-cast-t9 c = search needs
-
-cast-t11 : tie.Need-cast-t11
-cast-t11 c = search needs
 
 bits : (c : tie.After-double-bits)
     → c .double-bits .result ≡ bitsOf w32 (signed w16 (c .before .before .before .args .a) *ℤ signed w16 (c .before .before .before .args .m))
@@ -63,13 +48,5 @@ returns c = rw (bits c)
 pub multiply-spec : {M : Type 1} → statement M
 multiply-spec =
     tie.close
-    (tie.spec
-    word-value-requires
-    cast-x
-    word-value-requires-2
-    cast-y
-    mul-double-bits
-    double-bits-requires
-    cast-t9
-    cast-t11
-    returns)
+    (tie.spec (λ c κs. search needs) cast-x (λ c κs. search needs) cast-y mul-double-bits (λ c κs. search needs)
+    (λ c. search needs) (λ c. search needs) returns)

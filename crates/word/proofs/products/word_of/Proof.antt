@@ -9,12 +9,6 @@ use borrow.Author.Needs.{needs}
 use Rattle.word.proofs.products.word_of.Statement.{statement}
 use Rattle.word.proofs.products.word_of.Tie as tie
 
-double-bits-requires : tie.Need-double-bits-requires
-double-bits-requires c κs = search needs
-
-cast-result : tie.Need-cast-result
-cast-result c = search needs
-
 returns : tie.Need-returns
 returns c =
     let z = c .before .args .z in
@@ -22,4 +16,4 @@ returns c =
     ∙ low-half z (c .before .pre)
 
 pub word-of-spec : {M : Type 1} → statement M
-word-of-spec = tie.close (tie.spec double-bits-requires cast-result returns)
+word-of-spec = tie.close (tie.spec (λ c κs. search needs) (λ c. search needs) returns)

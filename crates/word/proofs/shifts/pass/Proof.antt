@@ -3,11 +3,8 @@ use borrow.Author.Needs.{needs}
 use Rattle.word.proofs.shifts.pass.Statement.{statement}
 use Rattle.word.proofs.shifts.pass.Tie as tie
 
-extend-requires : tie.Need-extend-requires
-extend-requires c κs = search needs
-
 returns : tie.Need-returns
 returns c = rw (← c .extend .ensures)
 
 pub pass-spec : {M : Type 1} → statement M
-pass-spec = tie.close (tie.spec extend-requires returns)
+pass-spec = tie.close (tie.spec (λ c κs. search needs) returns)

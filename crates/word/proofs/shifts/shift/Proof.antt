@@ -3,14 +3,8 @@ use borrow.Author.Needs.{needs}
 use Rattle.word.proofs.shifts.shift.Statement.{statement}
 use Rattle.word.proofs.shifts.shift.Tie as tie
 
-turn-requires : tie.Need-turn-requires
-turn-requires c κs = search needs
-
-extend-requires : tie.Need-extend-requires
-extend-requires c κs = search needs
-
 returns : tie.Need-returns
 returns c = rw (← c .before .turn .ensures, ← c .extend .ensures)
 
 pub shift-spec : {M : Type 1} → statement M
-shift-spec = tie.close (tie.spec turn-requires extend-requires returns)
+shift-spec = tie.close (tie.spec (λ c κs. search needs) (λ c κs. search needs) returns)

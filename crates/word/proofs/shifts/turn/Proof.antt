@@ -5,83 +5,14 @@ use borrow.Author.Needs.{needs}
 use Rattle.word.proofs.shifts.turn.Statement.{statement}
 use Rattle.word.proofs.shifts.turn.Tie as tie
 
-enum-told : tie.Need-enum-told
-enum-told c = search needs
-
-mul-result : tie.Need-mul-result
-mul-result c = search needs
-
-mul-result-2 : tie.Need-mul-result-2
-mul-result-2 c = search needs
-
-add-result : tie.Need-add-result
-add-result c = search needs
-
-enum-told-2 : tie.Need-enum-told-2
-enum-told-2 c = search needs
-
-mul-result-3 : tie.Need-mul-result-3
-mul-result-3 c = search needs
-
-add-result-2 : tie.Need-add-result-2
-add-result-2 c = search needs
-
-enum-told-3 : tie.Need-enum-told-3
-enum-told-3 c = search needs
-
-mul-result-4 : tie.Need-mul-result-4
-mul-result-4 c = search needs
-
-add-result-3 : tie.Need-add-result-3
-add-result-3 c = search needs
-
-enum-told-4 : tie.Need-enum-told-4
-enum-told-4 c = search needs
-
-mul-result-5 : tie.Need-mul-result-5
-mul-result-5 c = search needs
-
-add-result-4 : tie.Need-add-result-4
-add-result-4 c = search needs
-
-enum-told-5 : tie.Need-enum-told-5
-enum-told-5 c = search needs
-
-mul-result-6 : tie.Need-mul-result-6
-mul-result-6 c = search needs
-
-enum-told-6 : tie.Need-enum-told-6
-enum-told-6 c = search needs
-
-weight-of-requires : tie.Need-weight-of-requires
-weight-of-requires c κs = search needs
-
 mul-result-7 : tie.Need-mul-result-7
 mul-result-7 c = rw (c .weight-of .ensures) (omega (arith, weight-lt (c .before .before .before .args .e)))
 
 add-result-5 : tie.Need-add-result-5
 add-result-5 c = rw (c .weight-of .ensures) (omega (arith, weight-lt (c .before .before .before .args .e)))
 
-enum-told-7 : tie.Need-enum-told-7
-enum-told-7 c = search needs
-
-mul-result-8 : tie.Need-mul-result-8
-mul-result-8 c = search needs
-
-weight-of-requires-2 : tie.Need-weight-of-requires-2
-weight-of-requires-2 c κs = search needs
-
 add-result-6 : tie.Need-add-result-6
 add-result-6 c = rw (c .weight-of2 .ensures) (omega (arith, weight-lt (c .before .before .before .args .e)))
-
-enum-told-8 : tie.Need-enum-told-8
-enum-told-8 c = search needs
-
-mul-result-9 : tie.Need-mul-result-9
-mul-result-9 c = search needs
-
-add-result-7 : tie.Need-add-result-7
-add-result-7 c = search needs
 
 returns : tie.Need-returns
 returns c = rw (c .enum-told .given .1)
@@ -110,38 +41,9 @@ returns-8 c = rw (c .enum-told8 .given .1)
 pub turn-spec : {M : Type 1} → statement M
 turn-spec =
     tie.close
-    (tie.spec
-    enum-told
-    mul-result
-    mul-result-2
-    add-result
-    enum-told-2
-    mul-result-3
-    add-result-2
-    enum-told-3
-    mul-result-4
-    add-result-3
-    enum-told-4
-    mul-result-5
-    add-result-4
-    enum-told-5
-    mul-result-6
-    enum-told-6
-    weight-of-requires
-    mul-result-7
-    add-result-5
-    enum-told-7
-    mul-result-8
-    weight-of-requires-2
-    add-result-6
-    enum-told-8
-    mul-result-9
-    add-result-7
-    returns
-    returns-2
-    returns-3
-    returns-4
-    returns-5
-    returns-6
-    returns-7
-    returns-8)
+    (tie.spec (λ c. search needs) (λ c. search needs) (λ c. search needs) (λ c. search needs) (λ c. search needs)
+    (λ c. search needs) (λ c. search needs) (λ c. search needs) (λ c. search needs) (λ c. search needs)
+    (λ c. search needs) (λ c. search needs) (λ c. search needs) (λ c. search needs) (λ c. search needs)
+    (λ c. search needs) (λ c κs. search needs) mul-result-7 add-result-5 (λ c. search needs) (λ c. search needs)
+    (λ c κs. search needs) add-result-6 (λ c. search needs) (λ c. search needs) (λ c. search needs) returns returns-2
+    returns-3 returns-4 returns-5 returns-6 returns-7 returns-8)

@@ -4,16 +4,10 @@ use borrow.Author.Needs.{needs}
 use Rattle.word.proofs.sums.add.Statement.{statement}
 use Rattle.word.proofs.sums.add.Tie as tie
 
-wrapping-add-u16-requires : tie.Need-wrapping-add-u16-requires
-wrapping-add-u16-requires c κs = search needs
-
-add-into : tie.Need-add-into
-add-into c = search needs
-
 returns : tie.Need-returns
 returns c =
     sum-is (c .before .args .a) (c .before .args .b) (c .wrapping-add-u16 .result)
     (c .before .fits .a .fits) (c .before .fits .b .fits) (c .wrapping-add-u16 .ensures)
 
 pub add-spec : {M : Type 1} → statement M
-add-spec = tie.close (tie.spec wrapping-add-u16-requires add-into returns)
+add-spec = tie.close (tie.spec (λ c κs. search needs) (λ c. search needs) returns)

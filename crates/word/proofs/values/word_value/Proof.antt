@@ -7,24 +7,12 @@ use Rattle.word.proofs.Signed.{complement, complement-fits}
 use Rattle.word.proofs.values.word_value.Statement.{statement}
 use Rattle.word.proofs.values.word_value.Tie as tie
 
-cast-result : tie.Need-cast-result
-cast-result c = search needs
-
-sub-result : tie.Need-sub-result
-sub-result c = search needs
-
-cast-result-2 : tie.Need-cast-result-2
-cast-result-2 c = search needs
-
 sub-result-2 : tie.Need-sub-result-2
 sub-result-2 c = complement-fits w16 (c .before .args .w) (c .before .fits .w .fits)
-
-returns : tie.Need-returns
-returns c = search needs
 
 returns-2 : tie.Need-returns-2
 returns-2 c = toZ-ofZ w16 _ (sub-result-2 c) ∙ complement w16 (c .before .args .w) (c .before .fits .w .fits)
 
 pub word-value-spec : {M : Type 1} → statement M
 word-value-spec =
-    tie.close (tie.spec cast-result sub-result cast-result-2 sub-result-2 returns returns-2)
+    tie.close (tie.spec (λ c. search needs) (λ c. search needs) (λ c. search needs) sub-result-2 (λ c. search needs) returns-2)

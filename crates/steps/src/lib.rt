@@ -1,0 +1,3 @@
+// A step from its fetch on.
+pub mod perform;
+pub mod trap;
