@@ -51,6 +51,14 @@ use Rattle.acts.proofs.record.go_skipping.Kinds as go-skipping
 use Rattle.acts.proofs.record.go_skipping.Reads as go-skipping-reads
 use Rattle.acts.proofs.record.interrupt.Kinds as interrupt
 use Rattle.acts.proofs.record.interrupt.Reads as interrupt-reads
+use Rattle.acts.proofs.record.is_valid.Kinds as is-valid
+use Rattle.acts.proofs.record.is_valid.Reads as is-valid-reads
+use Rattle.acts.proofs.record.read_record.Kinds as read-record
+use Rattle.acts.proofs.record.read_record.Reads as read-record-reads
+use Rattle.acts.proofs.record.words_of.Kinds as words-of
+use Rattle.acts.proofs.record.words_of.Reads as words-of-reads
+use Rattle.acts.proofs.record.apart.Kinds as apart
+use Rattle.acts.proofs.record.apart.Reads as apart-reads
 use Rattle.acts.proofs.reads.get_address.Kinds as get-address
 use Rattle.acts.proofs.reads.get_address.Reads as get-address-reads
 use Rattle.acts.proofs.stores.put_last.Kinds as put-last
@@ -106,10 +114,10 @@ told (Trouble.Absent page) = refl
 told Trouble.Endless = refl
 told Trouble.InRegisters = refl
 
-apart : {pages : List ℕ} {part : (ℕ → Act) → Act} {r : Registers} {m : List ℕ} {X : Type 0} (v : ℕ) (t : Trouble)
+unlike : {pages : List ℕ} {part : (ℕ → Act) → Act} {r : Registers} {m : List ℕ} {X : Type 0} (v : ℕ) (t : Trouble)
     → Gives pages part r m (Got.Value v) → Gives pages part r m (Got.Ends t) → X
 unfolding exec
-apart v t p q =
+unlike v t p q =
     let k : ℕ → Act = λ w. fin (λ s. s) in
     let e = ap isDone (sym (p .goes k) ∙ q .goes k) ∙ not-done t in
     absurd (omega (arith, e))
@@ -120,8 +128,8 @@ unfolding exec
 gives-tight (Got.Value v) (Got.Value v′) p p′ =
     let k : ℕ → Act = λ w. fin (λ t. withA t w) in
     ap Got.Value (ap inA (sym (p .goes k) ∙ p′ .goes k))
-gives-tight (Got.Value v) (Got.Ends t) p p′ = apart v t p p′
-gives-tight (Got.Ends t) (Got.Value v) p p′ = apart v t p′ p
+gives-tight (Got.Value v) (Got.Ends t) p p′ = unlike v t p p′
+gives-tight (Got.Ends t) (Got.Value v) p p′ = unlike v t p′ p
 gives-tight (Got.Ends t) (Got.Ends t′) p p′ =
     let e = sym (p .goes (λ _. violate)) ∙ p′ .goes (λ _. violate) in
     ap Got.Ends (sym (told t) ∙ ap endedBy e ∙ told t′)
@@ -170,6 +178,18 @@ go-skipping-tight κs a x y s t p q = p ∙ sym q
 
 pub interrupt-tight : OneResult 0 interrupt.ps interrupt.r interrupt-reads.Post
 interrupt-tight κs a x y s t p q = p ∙ sym q
+
+pub is-valid-tight : OneResult 0 is-valid.ps is-valid.r is-valid-reads.Post
+is-valid-tight κs a x y s t p q = p ∙ sym q
+
+pub apart-tight : OneResult 0 apart.ps apart.r apart-reads.Post
+apart-tight κs a x y s t p q = p ∙ sym q
+
+pub read-record-tight : OneResult 1 read-record.ps read-record.r read-record-reads.Post
+read-record-tight κs a x y s t p q = p ∙ sym q
+
+pub words-of-tight : OneResult 0 words-of.ps words-of.r words-of-reads.Post
+words-of-tight κs a x y s t p q = p ∙ sym q
 
 pub get-address-tight : OneResult 2 get-address.ps get-address.r get-address-reads.Post
 get-address-tight κs a x y s t p q = gives-tight x y p q

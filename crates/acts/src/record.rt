@@ -1,12 +1,15 @@
-// The register record, by value.
+// The register record, by value, and as 14 words.
 use code::codes::Index;
 use code::codes::Register;
+use maps::pages::is_protecting;
+use maps::pages::switch_maps;
+use word::bits::weight_of;
 use word::sums::past;
 ghost use mathlib.Core.Path.{_≡_};
 ghost use Prim.Native.Nat.{_+_};
 ghost use Rattle.word.specs.Words.{weight};
 ghost use Rattle.word.specs.Sums.{address};
-ghost use Rattle.acts.specs.Record.{inRegister, withRegister, inIndex, withIndex, withP, fresh, interrupted, ahead};
+ghost use Rattle.acts.specs.Record.{inRegister, withRegister, inIndex, withIndex, withP, fresh, valid, interrupted, ahead, wordsOf, registersOf};
 
 // The order of the fields is no part of their meaning. In this one no register that most steps change lies
 // beside others that they leave, as such are copied as one number and taken apart again at each step.
@@ -109,7 +112,7 @@ pub fn go_ahead(n: u16, r: Registers) -> Registers
 pub fn skipping(p: u16, n: u16, skip: bool) -> u16
     ensures { λ q. ⌜ q ≡ address p (n + weight skip) ⌝ }
 {
-    past(past(p, n), word::bits::weight_of(skip))
+    past(past(p, n), weight_of(skip))
 }
 
 // P moved on by n words, and one more where a skip is met.
@@ -129,7 +132,107 @@ pub(crate) fn interrupt(r: Registers) -> Registers
     s.violation = r.p;
     s.interrupt = 7;
     s.imap = r.wmap;
-    s.wmap = r.wmap / 1024 % 32 * 1024 + r.wmap % 32 * 32;
+    s.wmap = switch_maps(r.wmap);
     s.trap = 7;
     s
+}
+
+// Whether every register is in its range, and no trap waits with protection on.
+pub fn is_valid(r: Registers) -> bool
+    ensures { λ t. ⌜ t ≡ valid r ⌝ }
+{
+    let protected = is_protecting(r.wmap);
+    (r.p < 0o100000)
+        & (r.violation < 0o100000)
+        & ((r.interrupt == 0) | (r.interrupt == 7))
+        & ((r.trap == 0) | (r.trap == 7) & !protected)
+}
+
+// The same record, made field by field: a call that takes it then leaves the caller's own in the processor's registers.
+pub fn apart(r: Registers) -> Registers
+    ensures { λ s. ⌜ s ≡ r ⌝ }
+{
+    Registers {
+        a: r.a,
+        x: r.x,
+        y: r.y,
+        b: r.b,
+        imap: r.imap,
+        violation: r.violation,
+        p: r.p,
+        interrupt: r.interrupt,
+        wmap: r.wmap,
+        trap: r.trap,
+        e: r.e,
+        o: r.o,
+        switches: r.switches,
+        lights: r.lights,
+    }
+}
+
+// The registers that words stand for, if they are a record.
+pub enum Taken {
+    Record(Registers),
+    NoRecord,
+}
+
+pub fn read_record(words: &[u16]) -> Taken
+    ensures { λ t. ⌜ t ≡ registersOf (now (words .entry)) ⌝ }
+{
+    if words.len() != 14 {
+        return Taken::NoRecord;
+    }
+    let e = words[5];
+    let o = words[6];
+    let switches = words[12];
+    let lights = words[13];
+    if 1 < e {
+        return Taken::NoRecord;
+    }
+    if 1 < o {
+        return Taken::NoRecord;
+    }
+    if 255 < switches {
+        return Taken::NoRecord;
+    }
+    if 255 < lights {
+        return Taken::NoRecord;
+    }
+    Taken::Record(Registers {
+        a: words[0],
+        b: words[1],
+        x: words[2],
+        y: words[3],
+        p: words[4],
+        e: e == 1,
+        o: o == 1,
+        wmap: words[7],
+        imap: words[8],
+        violation: words[9],
+        interrupt: words[10],
+        trap: words[11],
+        switches: switches as u8,
+        lights: lights as u8,
+    })
+}
+
+pub fn words_of(r: Registers) -> [u16; 14]
+    ensures { λ w. ⌜ w ≡ wordsOf r ⌝ }
+{
+    [
+        r.a,
+        r.b,
+        r.x,
+        r.y,
+        r.p,
+        weight_of(r.e),
+        weight_of(r.o),
+        r.wmap,
+        r.imap,
+        r.violation,
+        r.interrupt,
+        r.trap,
+        r.switches as u16,
+        r.lights as u16,
+    ]
 }

@@ -20,7 +20,7 @@ use Rattle.maps.specs.Access.{fetched}
 use Rattle.maps.specs.Chains.{chased, chain}
 use Rattle.maps.specs.Open.{OpenToRead, Agree}
 use Rattle.maps.specs.declared.pages.Map.{Map}
-use Rattle.acts.specs.Record.{withA, withP, interrupted}
+use Rattle.acts.specs.Record.{withA, withP, withWmap, fresh, interrupted}
 use Rattle.acts.specs.Acts.{exec}
 use Rattle.rules.specs.Rules.{trapRule}
 use Rattle.code.specs.Instructions.{memoryReference, reading}
@@ -51,7 +51,7 @@ memory x = program 1 ++ replicate 1024 x
 -- all three maps are map 0
 abbrev pub start : ℕ → Registers
 start wmap =
-    record { a = 0; b = 0; x = 0; y = 0; p = 2; e = false; o = false; wmap = wmap; imap = 0; violation = 0; interrupt = 0; trap = 0; switches = 0; lights = 0 }
+    withWmap fresh wmap
 
 abbrev protected : Registers
 protected = start 0o100000

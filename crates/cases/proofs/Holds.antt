@@ -18,6 +18,8 @@ use Rattle.word.specs.Products.{multiplied, divided}
 use Rattle.maps.specs.Pages.{isOpen, presence, spot, place}
 use Rattle.maps.specs.Access.{fetched}
 use Rattle.maps.specs.Chains.{chased, chain}
+use Rattle.acts.specs.Record.{wordsOf, registersAt}
+use Rattle.acts.proofs.Words.{at-words}
 use Rattle.acts.specs.Replies.{number}
 use Rattle.code.specs.Codes.{rows, findWord}
 use Rattle.code.specs.Instructions.{memoryReference, shiftRotate, alterSkip, inputOutput, extended, reading}
@@ -27,22 +29,6 @@ use Rattle.acts.specs.Acts.{Result, exec, answer, left}
 use Rattle.machine.specs.Step.{stepped}
 use Rattle.acts.specs.declared.record.Registers.{Registers}
 use Rattle.cases.specs.Table.{Case, Meets, holding, result, table, c5}
-
-abbrev numbers : Registers → List ℕ
-numbers r =
-    r .a ∷ r .b ∷ r .x ∷ r .y ∷ r .p ∷ weight (r .e) ∷ weight (r .o) ∷ r .wmap ∷ r .imap ∷ r .violation ∷ r .interrupt ∷ r .trap
-    ∷ r .switches ∷ r .lights ∷ []
-
-abbrev registersOf : List ℕ → Registers
-registersOf l =
-    record { a = getD l 0 0; b = getD l 1 0; x = getD l 2 0; y = getD l 3 0; p = getD l 4 0; e = eqb (getD l 5 0) 1; o = eqb (getD l 6 0) 1; wmap = getD l 7 0; imap = getD l 8 0; violation = getD l 9 0; interrupt = getD l 10 0; trap = getD l 11 0; switches = getD l 12 0; lights = getD l 13 0 }
-
-flag : (b : Bool) → eqb (weight b) 1 ≡ b
-flag true = refl
-flag false = refl
-
-again : (r : Registers) → registersOf (numbers r) ≡ r
-again r = rw (flag (r .e), flag (r .o)) refl
 
 abbrev both : Bool → Bool → Bool
 both true b = b
@@ -73,7 +59,7 @@ abbrev sameReply : Case → Result → Bool
 sameReply c s = eqb (number (answer (c .start) s .reply)) (c .reply)
 
 abbrev sameRegisters : Case → Result → Bool
-sameRegisters c s = same (numbers (answer (c .start) s .registers)) (numbers (c .registers))
+sameRegisters c s = same (wordsOf (answer (c .start) s .registers)) (wordsOf (c .registers))
 
 abbrev sameMemory : Case → Result → Bool
 sameMemory c s = same (left (holding (c .words)) s) (holding (c .later))
@@ -88,10 +74,10 @@ abbrev pub every : List Case → Bool
 every [] = true
 every (c ∷ cs) = both (passes c) (every cs)
 
-equal-registers : (r s : Registers) → T (same (numbers r) (numbers s)) → r ≡ s
+equal-registers : (r s : Registers) → T (same (wordsOf r) (wordsOf s)) → r ≡ s
 equal-registers r s t =
-    let e : numbers r ≡ numbers s = equal (numbers r) (numbers s) t in
-    sym (again r) ∙ ap registersOf {x = numbers r} {y = numbers s} e ∙ again s
+    let e : wordsOf r ≡ wordsOf s = equal (wordsOf r) (wordsOf s) t in
+    sym (at-words r) ∙ ap registersAt {x = wordsOf r} {y = wordsOf s} e ∙ at-words s
 
 agreeing : (c : Case) (s : Result) → T (agrees c s)
     → (number (answer (c .start) s .reply) ≡ c .reply) × (answer (c .start) s .registers ≡ c .registers)

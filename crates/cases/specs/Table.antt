@@ -9,6 +9,7 @@ use mathlib.Core.Path.{_≡_}
 use mathlib.Core.Bool.{Bool, true, false}
 use mathlib.Core.List.{List, [], _∷_}
 use lib.ListN.{set, replicate}
+use Rattle.acts.specs.Record.{withA, withB, withP, withE, withO, fresh}
 use Rattle.acts.specs.Replies.{number}
 use Rattle.acts.specs.Acts.{Result, answer, left}
 use Rattle.machine.specs.Step.{stepped}
@@ -50,7 +51,7 @@ at holds word = record { at = at; word = word }
 -- P, A, B, E, O; the others zero
 abbrev pub state : ℕ → ℕ → ℕ → Bool → Bool → Registers
 state p a b e o =
-    record { a = a; b = b; x = 0; y = 0; p = p; e = e; o = o; wmap = 0; imap = 0; violation = 0; interrupt = 0; trap = 0; switches = 0; lights = 0 }
+    withO (withE (withB (withA (withP fresh p) a) b) e) o
 
 -- a case that stores nothing
 abbrev pub reads : Registers → List Cell → ℕ → Registers → Case

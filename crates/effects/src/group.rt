@@ -18,6 +18,7 @@ use code::instructions::Alter;
 use code::instructions::AlterSkip;
 use code::instructions::IoOperation;
 use code::instructions::ShiftRotate;
+use maps::pages::is_protecting;
 use word::bits::complement;
 use word::long::LongShift;
 use word::long::long_shift;
@@ -271,7 +272,7 @@ fn panel(io: IoOperation, bit11: bool, bit9: bool, r: Registers) -> Stepped
 pub fn input_output(io: IoOperation, bit11: bool, bit9: bool, select: u16, r: Registers) -> Stepped
     ensures { λ s. ⌜ PerformsAlone (ioAct io bit11 bit9 select r) r s ⌝ }
 {
-    if high_bit(r.wmap) & (is_halt(io) | (select != 1)) {
+    if is_protecting(r.wmap) & (is_halt(io) | (select != 1)) {
         return violate(r);
     }
     if select == 1 {

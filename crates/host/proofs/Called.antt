@@ -10,9 +10,9 @@ use Rattle.machine.specs.Step.{Runs}
 use Rattle.machine.proofs.Running.{ran-one}
 use Rattle.acts.specs.declared.record.Registers.{Registers}
 use Rattle.acts.specs.declared.replies.Ran.{Ran}
-use Rattle.host.specs.declared.record.Taken.{Taken}
-use Rattle.host.specs.declared.record.Taken.the-variants.{Record, NoRecord}
-use Rattle.host.specs.Record.{wordsOf, registersOf}
+use Rattle.acts.specs.declared.record.Taken.{Taken}
+use Rattle.acts.specs.declared.record.Taken.the-variants.{Record, NoRecord}
+use Rattle.acts.specs.Record.{wordsOf, registersOf}
 use Rattle.host.specs.Calls.{stepCall, runCall, RunCalls}
 use Rattle.host.proofs.Records.{one-number}
 

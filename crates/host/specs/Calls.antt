@@ -18,8 +18,8 @@ use Rattle.acts.specs.Acts.{answer, left}
 use Rattle.machine.specs.Step.{stepped, ran, Leaves}
 use Rattle.acts.specs.declared.record.Registers.{Registers}
 use Rattle.acts.specs.declared.replies.Stepped.{Stepped}
-use Rattle.host.specs.declared.record.Taken.the-variants.{Record, NoRecord}
-use Rattle.host.specs.Record.{wordsOf, registersOf}
+use Rattle.acts.specs.declared.record.Taken.the-variants.{Record, NoRecord}
+use Rattle.acts.specs.Record.{wordsOf, registersOf}
 
 pub record Answered : Type 0 where
   pub reply : ℕ

@@ -1,8 +1,8 @@
 // The calls on a register record: a fresh one, one step, a run.
-use crate::record::Taken;
-use crate::record::read_record;
 use crate::record::write_record;
+use acts::record::Taken;
 use acts::record::fresh_record;
+use acts::record::read_record;
 use acts::replies::number_of;
 use machine::run::run;
 ghost use mathlib.Core.Path.{_≡_};

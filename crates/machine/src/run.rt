@@ -1,6 +1,7 @@
 // A run of steps, with a budget.
 use crate::step::is_good_call;
 use acts::record::Registers;
+use acts::record::apart;
 use acts::replies::Ran;
 use acts::replies::Reply;
 use acts::replies::number_of;
@@ -12,28 +13,6 @@ ghost use lib.Dec.{eqb};
 ghost use lib.ListN.{length};
 ghost use Rattle.machine.specs.Step.{goodCall, running, Leaves, Runs, Goes};
 ghost use Rattle.machine.specs.Turns.{Turned};
-
-// The same record, made field by field: a call that takes it then leaves the caller's own in the processor's registers.
-fn apart(r: Registers) -> Registers
-    ensures { λ s. ⌜ s ≡ r ⌝ }
-{
-    Registers {
-        a: r.a,
-        x: r.x,
-        y: r.y,
-        b: r.b,
-        imap: r.imap,
-        violation: r.violation,
-        p: r.p,
-        interrupt: r.interrupt,
-        wmap: r.wmap,
-        trap: r.trap,
-        e: r.e,
-        o: r.o,
-        switches: r.switches,
-        lights: r.lights,
-    }
-}
 
 // What one step makes of a run: it goes on, or it has ended with this step.
 pub enum Turn {

@@ -1,21 +1,11 @@
 // One step: the test of the call, and a run of one.
 use crate::run::go;
 use acts::record::Registers;
+use acts::record::is_valid;
 use acts::replies::Reply;
 use acts::replies::Stepped;
 ghost use mathlib.Core.Path.{_≡_};
-ghost use Rattle.acts.specs.Record.{valid};
 ghost use Rattle.machine.specs.Step.{goodCall, Steps};
-
-fn is_valid(r: Registers) -> bool
-    ensures { λ t. ⌜ t ≡ valid r ⌝ }
-{
-    let open = r.wmap / 0o100000 % 2 == 1;
-    (r.p < 0o100000)
-        & (r.violation < 0o100000)
-        & ((r.interrupt == 0) | (r.interrupt == 7))
-        & ((r.trap == 0) | (r.trap == 7) & !open)
-}
 
 // Whether page registers and memory of these lengths, and the record, make a good call.
 pub(crate) fn is_good_call(registers: usize, words: usize, r: Registers) -> bool

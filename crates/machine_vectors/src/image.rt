@@ -3,6 +3,9 @@
 use crate::state::put;
 use crate::state::word;
 use acts::record::Registers;
+use acts::record::Taken;
+use acts::record::fresh_record;
+use acts::record::read_record;
 use word::sums::add;
 
 pub(crate) const PAGES_AT: u16 = 32768;
@@ -57,29 +60,12 @@ pub(crate) fn copy(image: &[u16], at: u16, words: &mut [u16], n: u16) {
     }
 }
 
-fn entry(image: &[u16], n: u16) -> u16 {
-    word(image, REGISTERS_AT + n % 16)
-}
-
-fn low_byte(w: u16) -> u8 {
-    (w % 256) as u8
-}
-
+// The record that the image's words are; words that are none give a fresh one.
 pub(crate) fn registers(image: &[u16]) -> Registers {
-    Registers {
-        a: entry(image, 0),
-        b: entry(image, 1),
-        x: entry(image, 2),
-        y: entry(image, 3),
-        p: entry(image, 4),
-        e: entry(image, 5) == 1,
-        o: entry(image, 6) == 1,
-        wmap: entry(image, 7),
-        imap: entry(image, 8),
-        violation: entry(image, 9),
-        interrupt: entry(image, 10),
-        trap: entry(image, 11),
-        switches: low_byte(entry(image, 12)),
-        lights: low_byte(entry(image, 13)),
+    let mut words: [u16; 14] = [0; 14];
+    copy(image, REGISTERS_AT, &mut words, 14);
+    match read_record(&words) {
+        Taken::Record(r) => r,
+        Taken::NoRecord => fresh_record(),
     }
 }

@@ -1,5 +1,6 @@
 -- What the layer promises upward: each law once, so that no upper proof opens a definition of this layer.
 --     The paper's numbers        each tells the case of an answer
+--     WMAP                       an interrupt ends protection
 --     What a store leaves        one word changed, or none
 --     The place of an access     its two tests decide it; after both succeed the access succeeds
 --     Reading and storing        a read sees the word at its place, a store changes that word and no other
@@ -18,8 +19,9 @@ use mathlib.Core.List.{List}
 use lib.Dec.{eqb, ltb}
 use lib.ListN.{length, getD, length-set}
 use lib.Seq.{getD-set-same}
+use borrow.Author.Tests.{ne-eqb}
 use Rattle.word.specs.Words.{bit}
-use Rattle.maps.specs.Pages.{readProtected, protecting, physicalPage, pageRegister, registerOf, indexIn, isRegister, isOpen, presence, spot, ifPresent, place, Reached, numberPlace}
+use Rattle.maps.specs.Pages.{readProtected, protecting, switched, physicalPage, pageRegister, registerOf, indexIn, isRegister, isOpen, presence, spot, ifPresent, place, Reached, numberPlace}
 use Rattle.maps.specs.Troubles.{numberTrouble, numberGot, numberTested}
 use Rattle.maps.specs.Access.{held, fetched, put}
 use Rattle.maps.specs.Chains.{chased, executeWord, chain}
@@ -59,6 +61,12 @@ got-told (Got.Ends trouble) e = absurd (trouble-told trouble .0 e)
 pub tested-told : (t : Tested) → numberTested t ≡ 0 → t ≡ Tested.Sound
 tested-told Tested.Sound e = refl
 tested-told (Tested.Ends trouble) e = absurd (trouble-told trouble .0 e)
+
+---- WMAP
+
+-- an interrupt ends protection
+pub switched-off : (wmap : ℕ) → protecting (switched wmap) ≡ false
+switched-off wmap = ne-eqb (switched wmap / 0o100000 % 2) 1 (λ e. omega arith)
 
 ---- What a store leaves, at any place
 

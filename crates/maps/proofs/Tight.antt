@@ -10,6 +10,10 @@ use mathlib.Core.Path.{_≡_, sym, _∙_}
 use Rattle.word.proofs.Tight.{OneResult}
 use Rattle.maps.proofs.pages.is_register.Kinds as is-register
 use Rattle.maps.proofs.pages.is_register.Reads as is-register-reads
+use Rattle.maps.proofs.pages.is_protecting.Kinds as is-protecting
+use Rattle.maps.proofs.pages.is_protecting.Reads as is-protecting-reads
+use Rattle.maps.proofs.pages.switch_maps.Kinds as switch-maps
+use Rattle.maps.proofs.pages.switch_maps.Reads as switch-maps-reads
 use Rattle.maps.proofs.pages.is_open.Kinds as is-open
 use Rattle.maps.proofs.pages.is_open.Reads as is-open-reads
 use Rattle.maps.proofs.pages.presence_of.Kinds as presence-of
@@ -29,6 +33,12 @@ use Rattle.maps.proofs.bytes.is_low_byte.Reads as is-low-byte-reads
 
 pub is-register-tight : OneResult 0 is-register.ps is-register.r is-register-reads.Post
 is-register-tight κs a x y s t p q = p ∙ sym q
+
+pub is-protecting-tight : OneResult 0 is-protecting.ps is-protecting.r is-protecting-reads.Post
+is-protecting-tight κs a x y s t p q = p ∙ sym q
+
+pub switch-maps-tight : OneResult 0 switch-maps.ps switch-maps.r switch-maps-reads.Post
+switch-maps-tight κs a x y s t p q = p ∙ sym q
 
 pub is-open-tight : OneResult 1 is-open.ps is-open.r is-open-reads.Post
 is-open-tight κs a x y s t p q = p ∙ sym q

@@ -1,6 +1,7 @@
 -- Page registers and WMAP, and where a logical address leads.
 --     physicalPage, storeProtected, readProtected      the fields of a page register
 --     executeMap, data1Map, data2Map, protecting       the fields of WMAP
+--     switched                                         WMAP after an interrupt
 --     mapNumber, pageRegister                          the page register of a logical page in one of the three maps
 --     registerOf, indexIn                              the page register of an address, and the word that it names
 --     isRegister                                       whether an address is A or B
@@ -47,6 +48,10 @@ data2Map wmap = wmap / 1024 % 32
 
 abbrev pub protecting : ℕ → Bool
 protecting wmap = bit 15 wmap
+
+-- 01, Violation: "in WMAP the Execute map becomes 0, DATA1 the old Execute map, DATA2 keeps its value (here), protection goes off"
+abbrev pub switched : ℕ → ℕ
+switched wmap = data2Map wmap * 1024 + executeMap wmap * 32
 
 -- 01: "Page registers: 1,024 lent 16-bit words, 32 maps of 32." One past the lent registers reads as 0.
 abbrev pub mapNumber : Map → ℕ → ℕ

@@ -3,7 +3,7 @@ use crate::troubles::Tested;
 use crate::troubles::Trouble;
 ghost use mathlib.Core.Path.{_≡_};
 ghost use mathlib.Core.Bool.{_&&_};
-ghost use Rattle.maps.specs.Pages.{mapNumber, registerOf, protecting, closedTo, indexIn};
+ghost use Rattle.maps.specs.Pages.{mapNumber, registerOf, protecting, switched, closedTo, indexIn};
 ghost use Rattle.maps.specs.Pages.{isRegister, isOpen, presence, place};
 
 // The three current maps, which WMAP names.
@@ -50,11 +50,25 @@ fn page_register(pages: &[u16], wmap: u16, map: Map, address: u16) -> u16
     0
 }
 
+// Whether protection is on.
+pub fn is_protecting(wmap: u16) -> bool
+    ensures { λ r. ⌜ r ≡ protecting wmap ⌝ }
+{
+    wmap / 32768 % 2 == 1
+}
+
+// WMAP after an interrupt: the maps are switched, and protection is off.
+pub fn switch_maps(wmap: u16) -> u16
+    ensures { λ r. ⌜ r ≡ switched wmap ⌝ }
+{
+    wmap / 1024 % 32 * 1024 + wmap % 32 * 32
+}
+
 // Whether a page register closes its page to a purpose.
 fn is_closed(wmap: u16, purpose: Purpose, register: u16) -> bool
     ensures { λ r. ⌜ r ≡ (protecting wmap && closedTo purpose register) ⌝ }
 {
-    if wmap / 32768 % 2 == 1 {
+    if is_protecting(wmap) {
         return match purpose {
             Purpose::Read => register / 32768 % 2 == 1,
             Purpose::Store => register / 16384 % 2 == 1,

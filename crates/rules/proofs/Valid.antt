@@ -10,14 +10,15 @@ use mathlib.Core.Path.{_≡_, refl, sym}
 use mathlib.Core.Bool.{Bool, true, false, cond, not, _&&_, _||_}
 use mathlib.Core.List.{List}
 use lib.Dec.{eqb, ltb}
-use borrow.Author.Tests.{lt-ltb, ne-eqb}
+use borrow.Author.Tests.{lt-ltb}
 use Rattle.word.specs.Words.{weight, everyBitSet}
 use Rattle.word.specs.Sums.{sum, incremented, decremented, address}
 use Rattle.word.specs.Products.{divided}
 use Rattle.word.specs.declared.products.Quotient.{Quotient}
 use Rattle.word.specs.declared.long.LongShift.{LongShift}
 use Rattle.word.specs.declared.orders.Order.{Order}
-use Rattle.maps.specs.Pages.{executeMap, data2Map, protecting, isRegister}
+use Rattle.maps.specs.Pages.{protecting, isRegister}
+use Rattle.maps.proofs.Laws.{switched-off}
 use Rattle.maps.specs.declared.pages.Map.{Map}
 use Rattle.maps.specs.declared.pages.Map.the-variants.{Execute}
 use Rattle.maps.specs.declared.pages.Purpose.{Purpose}
@@ -96,12 +97,8 @@ trapped-valid r q l h =
 pub address-fits : (a n : ℕ) → address a n < 0o100000
 address-fits a n = omega arith
 
--- an interrupt ends protection
-unprotected : (w : ℕ) → protecting (data2Map w * 1024 + executeMap w * 32) ≡ false
-unprotected w = ne-eqb ((data2Map w * 1024 + executeMap w * 32) / 0o100000 % 2) 1 (λ e. omega arith)
-
 pub interrupted-valid : (r : Registers) → Valid r → Valid (interrupted r)
-interrupted-valid r h = rw (parts r h .one, unprotected (r .wmap))
+interrupted-valid r h = rw (parts r h .one, switched-off (r .wmap))
 
 -- Records that stay valid and keep WMAP.
 module _ (wmap : ℕ) where

@@ -22,6 +22,7 @@ use effects::ways::at_address;
 use maps::access::read_word;
 use maps::chains::follow;
 use maps::pages::Map;
+use maps::pages::is_protecting;
 use maps::troubles::Got;
 use rules::actions::Action;
 use rules::actions::Operand;
@@ -71,7 +72,7 @@ fn go_way(way: Way, from: Operand, r: Registers, pages: &[u16], memory: &mut [u1
 fn not_built(w: u16, r: Registers) -> Stepped
     ensures { λ s. ⌜ PerformsAlone (cond (protecting (r .wmap) && privileged w) violating (stop Refusal.NotBuilt)) r s ⌝ }
 {
-    if (r.wmap / 0o100000 % 2 == 1) & is_privileged(w) {
+    if is_protecting(r.wmap) & is_privileged(w) {
         return violate(r);
     }
     refuse(Refusal::NotBuilt, r)

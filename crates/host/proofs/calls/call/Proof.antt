@@ -1,6 +1,6 @@
 -- `host::calls::call` meets its contract: words that are a record are run, others refused. Assumes nothing.
 use mathlib.Core.Path.{sym, _∙_}
-use Rattle.host.proofs.Records.{record-length}
+use Rattle.acts.proofs.Words.{record-length}
 use Rattle.host.proofs.Called.{run-called, run-refused}
 use borrow.Author.Needs.{needs}
 use Rattle.host.proofs.calls.call.Statement.{statement}

@@ -1,7 +1,7 @@
--- `host::record::words_of` meets its contract. Assumes nothing.
+-- `record::words_of` meets its contract. Assumes nothing.
 use borrow.Author.Needs.{needs}
-use Rattle.host.proofs.record.words_of.Statement.{statement}
-use Rattle.host.proofs.record.words_of.Tie as tie
+use Rattle.acts.proofs.record.words_of.Statement.{statement}
+use Rattle.acts.proofs.record.words_of.Tie as tie
 
 returns : tie.Need-returns
 returns c = rw (c .before .before .before .weight-of .ensures, c .before .before .weight-of2 .ensures)

@@ -1,10 +1,10 @@
--- `host::record::read_record` meets its contract: each way out is a test of `isRecord`. Assumes nothing.
+-- `record::read_record` meets its contract: each way out is a test of `isRecord`. Assumes nothing.
 use native.Mathlib.Omega.{arith}
 use borrow.Author.Tests.{eq-eqb, ne-eqb, le-leb, lt-leb}
-use Rattle.host.specs.Record.{registersOf}
+use Rattle.acts.specs.Record.{registersOf}
 use borrow.Author.Needs.{needs}
-use Rattle.host.proofs.record.read_record.Statement.{statement}
-use Rattle.host.proofs.record.read_record.Tie as tie
+use Rattle.acts.proofs.record.read_record.Statement.{statement}
+use Rattle.acts.proofs.record.read_record.Tie as tie
 
 returns : tie.Need-returns
 unfolding registersOf
