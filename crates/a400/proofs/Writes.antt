@@ -19,7 +19,7 @@ use Rattle.a400.specs.Fields.{fieldsOf, sameWords, writingFields, writeC
 use Rattle.a400.specs.Unchecked.{instructionAt}
 use Rattle.a400.proofs.Records.{one-number}
 use Rattle.a400.proofs.Sameness.{same-self, same-true}
-use Rattle.a400.proofs.Again.{read-back, is-word, write-then-read, no-word-reads}
+use Rattle.a400.proofs.Inverse.{read-back, is-word, write-then-read, no-word-reads}
 
 module _ (f : List ℕ) (i : Instruction) (again : List ℕ) (t : Bool) (p : i ≡ instructionAt f) (q : again ≡ fieldsOf i) (s : t ≡ sameWords f again) where
   -- where some word reads as the fields, the instruction taken from them is what it reads as

@@ -4,7 +4,7 @@
 --     Called, Calls        a call of the machine: its reply, and the record and memory after it; what it promises
 --     stepCall             one step
 --     RunCalled, RunCalls, runCall    a run, with its count
--- What a step and a run do is the machine's. The record as words is in Record.
+-- What a step and a run do is the machine's. The record as words is in Record of `acts`.
 -- Assumes nothing.
 use Prim.Native.Nat.{ℕ}
 use mathlib.Core.Path.{_≡_}

@@ -5,7 +5,7 @@
 --     wordBelow, writingFields    the word that reads as these fields, or none
 --     numberWritten          the writer's answer by its number
 --     readCall, writeCall    the two calls
--- What a word reads as is `reading`, of `code`. That no two words read as the same fields is in proofs/Again.antt.
+-- What a word reads as is `reading`, of `code`. That no two words read as the same fields is in proofs/Inverse.antt.
 -- Assumes nothing.
 use Prim.Native.Nat.{ℕ, zero, suc, _/_}
 use mathlib.Core.Bool.{Bool, true, false, cond, _&&_}

@@ -1,5 +1,6 @@
 // The calls on a register record: a fresh one, one step, a run.
 use crate::record::write_record;
+use acts::record::RECORD_WORDS;
 use acts::record::Taken;
 use acts::record::fresh_record;
 use acts::record::read_record;
@@ -13,7 +14,7 @@ ghost use Rattle.a400.specs.Calls.{freshCall, stepCall, runCall, Answers
 pub extern "C" fn a400_fresh(words: &mut [u16]) -> u32
     ensures { λ n. ⌜ Answers (freshCall (now (words .entry))) n (now (words .exit)) ⌝ }
 {
-    if words.len() != 14 {
+    if words.len() != RECORD_WORDS {
         return 8;
     }
     write_record(fresh_record(), words);

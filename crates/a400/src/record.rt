@@ -1,4 +1,4 @@
-// The register record written to 14 lent words.
+// The register record written to lent words.
 use crate::words::copy_words;
 use acts::record::Registers;
 use acts::record::words_of;

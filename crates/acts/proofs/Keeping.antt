@@ -1,6 +1,6 @@
 -- What every ending of a program keeps holds of its result: an induction over programs, whatever rule they state.
---     Keeps                     a program whose every ending keeps what is asked of registers
---     Carries, exec-holds       what stores keep, and endings keep, holds of the result
+--     Leads, Keeps              a program that leads from what is asked of registers to something else, or keeps it
+--     Carrying, Carries, exec-holds    what stores keep, and endings lead to, holds of the result
 --     left-length, exec-length  so a program leaves as many words as it found
 --     Fair, exec-fair           and gives the result of no bad call
 -- Assumes nothing.
@@ -24,27 +24,34 @@ use Rattle.acts.specs.Acts.{Result, done, violated, refused, badCall, tr
 use Rattle.acts.specs.declared.record.Registers.{Registers}
 use Rattle.acts.specs.declared.replies.Refusal.{Refusal}
 
--- every ending of a program keeps R; a chain's address has 15 bits
+-- with D of the registers while a program runs, every ending gives registers with A; a chain's address has 15 bits
+abbrev pub Leads : (Registers → Type 0) → (Registers → Type 0) → Act → Type 0
+Leads D A (fin f) = (s : Registers) → D s → A (f s)
+Leads D A (stop refusal) = Unit
+Leads D A violate = Unit
+Leads D A (load map at k) = (w : ℕ) → Leads D A (k w)
+Leads D A (save map at v k) = Leads D A k
+Leads D A (follow word k) = (at : ℕ) → at < 0o100000 → Leads D A (k at)
+Leads D A (opened map purpose at k) = Leads D A k
+Leads D A (present map at k) = Leads D A k
+
+-- every ending of a program keeps R
 abbrev pub Keeps : (Registers → Type 0) → Act → Type 0
-Keeps R (fin f) = (s : Registers) → R s → R (f s)
-Keeps R (stop refusal) = Unit
-Keeps R violate = Unit
-Keeps R (load map at k) = (w : ℕ) → Keeps R (k w)
-Keeps R (save map at v k) = Keeps R k
-Keeps R (follow word k) = (at : ℕ) → at < 0o100000 → Keeps R (k at)
-Keeps R (opened map purpose at k) = Keeps R k
-Keeps R (present map at k) = Keeps R k
+Keeps R act = Leads R R act
 
 -- what stores keep, of registers and of memory, and what follows of the result
-pub record Carries (R : Registers → Type 0) (M : List ℕ → Type 0) (P : Result → Type 0) : Type 0 where
-  pub in-a : (r : Registers) (v : ℕ) → R r → R (withA r v)
-  pub in-b : (r : Registers) (v : ℕ) → R r → R (withB r v)
+pub record Carrying (D A : Registers → Type 0) (M : List ℕ → Type 0) (P : Result → Type 0) : Type 0 where
+  pub in-a : (r : Registers) (v : ℕ) → D r → D (withA r v)
+  pub in-b : (r : Registers) (v : ℕ) → D r → D (withB r v)
   pub in-memory : (m : List ℕ) (i v : ℕ) → M m → M (set m i v)
-  pub completion : (r : Registers) (m : List ℕ) → R r → M m → P (done r m)
+  pub completion : (r : Registers) (m : List ℕ) → A r → M m → P (done r m)
   pub violation : P violated
   pub refusal : (refusal : Refusal) → P (refused refusal)
 
-module _ {R : Registers → Type 0} {M : List ℕ → Type 0} {P : Result → Type 0} (h : Carries R M P) where
+abbrev pub Carries : (Registers → Type 0) → (List ℕ → Type 0) → (Result → Type 0) → Type 0
+Carries R M P = Carrying R R M P
+
+module _ {D A : Registers → Type 0} {M : List ℕ → Type 0} {P : Result → Type 0} (h : Carrying D A M P) where
   at-trouble : (t : Trouble) → P (troubled t)
   at-trouble Trouble.Closed = h .violation
   at-trouble (Trouble.Absent page) = h .refusal _
@@ -56,7 +63,7 @@ module _ {R : Registers → Type 0} {M : List ℕ → Type 0} {P : Result → Ty
   at-got (Got.Ends t) k on = at-trouble t
 
   at-place : (x : Place) (v : ℕ) (k : Registers → List ℕ → Result) (r : Registers) (m : List ℕ)
-      → ((s : Registers) (n : List ℕ) → R s → M n → P (k s n)) → R r → M m → P (onPlace x v k r m)
+      → ((s : Registers) (n : List ℕ) → D s → M n → P (k s n)) → D r → M m → P (onPlace x v k r m)
   at-place Place.A v k r m on p q = on (withA r v) m (h .in-a r v p) q
   at-place Place.B v k r m on p q = on (withB r v) m (h .in-b r v p) q
   at-place (Place.Memory i) v k r m on p q = on r (set m i v) p (h .in-memory m i v q)
@@ -70,7 +77,7 @@ module _ {R : Registers → Type 0} {M : List ℕ → Type 0} {P : Result → Ty
   at-tested Tested.Sound x on = on
   at-tested (Tested.Ends t) x on = at-trouble t
 
-  pub exec-holds : (pages : List ℕ) (act : Act) → Keeps R act → (r : Registers) (m : List ℕ) → R r → M m → P (exec pages act r m)
+  pub exec-holds : (pages : List ℕ) (act : Act) → Leads D A act → (r : Registers) (m : List ℕ) → D r → M m → P (exec pages act r m)
   unfolding exec
   exec-holds pages (fin f) e r m p q = h .completion (f r) m (e r p) q
   exec-holds pages (stop refusal) e r m p q = h .refusal refusal

@@ -170,6 +170,9 @@ pub fn apart(r: Registers) -> Registers
     }
 }
 
+// How many words a record has.
+pub const RECORD_WORDS: usize = 14;
+
 // The registers that words stand for, if they are a record.
 pub enum Taken {
     Record(Registers),
@@ -179,7 +182,7 @@ pub enum Taken {
 pub fn read_record(words: &[u16]) -> Taken
     ensures { λ t. ⌜ t ≡ registersOf (now (words .entry)) ⌝ }
 {
-    if words.len() != 14 {
+    if words.len() != RECORD_WORDS {
         return Taken::NoRecord;
     }
     let e = words[5];

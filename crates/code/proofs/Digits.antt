@@ -1,5 +1,4 @@
 -- Numbers from their parts, and from what they are not.
---     quarters      a number from its two low binary digits and the rest
 --     split         the digits of a number from k on, by one digit of base n
 --     digit, low    a digit of a number that is put together from its digits
 --     last-arm      in the last arm of a `match` on a number, the number is past the keys of the arms before
@@ -13,9 +12,6 @@ use native.Mathlib.Nat.{add-comm, zero-add, add-mul-mod-self-right, mod-eq-of-lt
 use native.Mathlib.Nat.{div-add-mod', div-div-eq-div-mul, add-zero, add-suc, eq-or-lt-of-le, le-of-suc-le-suc, not-suc-le-zero}
 use mathlib.Core.Logic.{⊎-elim}
 use lib.Dec.{T}
-
-pub quarters : (n : ℕ) → n / 4 * 4 + n / 2 % 2 * 2 + n % 2 ≡ n
-quarters n = omega arith
 
 pub split : (k n w : ℕ) → w / (k * n) * n + w / k % n ≡ w / k
 split k n w = rw (← div-div-eq-div-mul w k n) (div-add-mod' (w / k) n)

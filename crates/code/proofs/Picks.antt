@@ -3,13 +3,14 @@
 --     operation-code, register-number, shift-number, alter-number, io-number    the number of a number's choice
 --     operation-range, register-small, shift-small, alter-small, io-small    how large a choice's number is
 --     last-choice   a number past the last choice gives the last
+--     rest          in the last arm of a `match` on a number, what is the same from k on is as at k
 -- Assumes nothing.
-use mathlib.Core.Path.{_≡_, refl, sym}
+use mathlib.Core.Path.{_≡_, refl, _∙_, sym, ap}
 use mathlib.Core.Logic.{⊎-elim}
 use mathlib.Core.List.{List}
-use Prim.Native.Nat.{ℕ, suc, _+_, _*_, _/_, _-_, _≤_, _<_}
+use Prim.Native.Nat.{ℕ, zero-le, zero, suc, _+_, _*_, _/_, _-_, _≤_, _<_}
 use native.Mathlib.Omega.{arith}
-use native.Mathlib.Nat.{eq-or-lt-of-le}
+use native.Mathlib.Nat.{add-zero, add-suc, eq-or-lt-of-le}
 use borrow.Author.Tests.{eqb-true}
 use lib.Dec.{eqb}
 use lib.ListN.{length, getD, List·getD-eq-default}
@@ -25,7 +26,7 @@ use Rattle.code.specs.declared.instructions.IoOperation.{IoOperation}
 use Rattle.code.specs.declared.instructions.IoOperation.the-variants.{Hlt, Flag, Sfc, Sfs, Mia, Lia, Ota, Control}
 use Rattle.code.specs.Instructions.{operationCode, operationAt, registerFlag, registerAt, shiftNumber, shiftAt}
 use Rattle.code.specs.Instructions.{alterNumber, alterAt, ioNumber, ioAt}
-use Rattle.code.proofs.Digits.{under}
+use Rattle.code.proofs.Digits.{under, Passed, last-arm}
 
 pub operation-back : (o : Operation) → operationAt (operationCode o / 0o4000) ≡ o
 operation-back And = refl
@@ -145,3 +146,16 @@ pub last-choice :
     {A : Type 0} (l : List A) (d : A) (n k : ℕ) → getD l k d ≡ d → length l ≡ suc k → k ≤ n → d ≡ getD l n d
 last-choice l d n k last all h =
     ⊎-elim (λ (q : k ≡ n). rw (← q) (sym last)) (λ (p : k < n). sym (List·getD-eq-default l d {n = n} (rw all p))) (eq-or-lt-of-le h)
+
+-- the number m past k
+abbrev pub beyond : ℕ → ℕ → ℕ
+beyond zero m = m
+beyond (suc k) m = suc (beyond k m)
+
+beyond-is : (k m : ℕ) → beyond k m ≡ m + k
+beyond-is zero m = sym (add-zero m)
+beyond-is (suc k) m = ap suc (beyond-is k m) ∙ sym (add-suc m k)
+
+pub rest : {A : Type 0} (f : ℕ → A) (k n : ℕ) → ((m : ℕ) → f (beyond k m) ≡ f k) → Passed n 0 k → f k ≡ f n
+rest f k n same p =
+    let e : (n - k) + k ≡ n = omega (arith, last-arm n 0 k zero-le p) in sym (same (n - k)) ∙ ap f (beyond-is k (n - k) ∙ e)

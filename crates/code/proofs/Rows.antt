@@ -29,7 +29,7 @@ use Rattle.code.specs.Instructions.{writeLongShift, writeExtended, write
 use Rattle.code.proofs.Digits.{below, under}
 use Rattle.code.proofs.Truth.{never, is-true, both}
 use Rattle.code.proofs.Search.{every, given-test, given-every}
-use Rattle.code.proofs.Table.{kindOf, back, once, code-small}
+use Rattle.code.proofs.Table.{once, kind-is, code-small}
 use Rattle.code.proofs.Fields.{is-extended, no-word, Reads}
 
 -- the tests of a row
@@ -156,24 +156,21 @@ extended-again w fits here = go (findWord w) refl
 -- Reading again.
 
 module _ (k : Kind) (e : Entry) (found : findKind k ≡ At e) where
-  kind-is : e .kind ≡ k
-  kind-is = sym (ap kindOf found) ∙ back k
-
   owned : (n : ℕ) → n < span k → own e n ≡ true
   unfolding findKind
   owned n l =
       under (own e) (span (e .kind))
-      (is-true (given-every (λ r. same (r .kind) k) e (λ r. below (own r) (span (r .kind))) rows words-found found)) n (rw kind-is l)
+      (is-true (given-every (λ r. same (r .kind) k) e (λ r. below (own r) (span (r .kind))) rows words-found found)) n (rw (kind-is k e found) l)
 
   clean-kind : clean k (e .code) ≡ true
   unfolding findKind
   clean-kind =
-      rw kind-is at (given-every (λ r. same (r .kind) k) e (λ r. clean (r .kind) (r .code)) rows codes-clean found)
+      rw (kind-is k e found) at (given-every (λ r. same (r .kind) k) e (λ r. clean (r .kind) (r .code)) rows codes-clean found)
 
   found-again : (n : ℕ) → n < span k → reading (e .code + n) ≡ ofKind k (e .code + n)
   found-again n l =
       let b = both (in-group (e .code + n)) (found-kind (findWord (e .code + n)) (e .kind)) (owned n l) in
-      reads-as (e .code + n) k (b .0) (rw kind-is at (b .1))
+      reads-as (e .code + n) k (b .0) (rw (kind-is k e found) at (b .1))
 
 pub exact-read : (x : of-extended.Extended) (w : ℕ) → writeExtended x ≡ Word w → Reads w (Extended x)
 unfolding writeExtended

@@ -1,20 +1,22 @@
--- Each kind of an extended code is found in the table, and no two kinds have the same number.
---     kindOf        the kind of a row that was found
+-- Each kind of an extended code has a row of the table, and a number of its own.
 --     back          the search of a kind gives a row of that kind
 --     once          kinds with the same number are the same
+--     kind-is       a row that is found for a kind is of that kind
+--     in-table      a test that every row passes, at the row of a kind
+--     at-number     each kind is the one at its number
 -- and what a turn of each search shows of the table as the code keeps it:
---     length-is     how many words each mnemonic takes
+--     kind-met, kind-passed, word-met, word-passed, past, size
 -- and
---     kind-met, kind-passed, word-met, word-passed, small, past, code-small
+--     code-small    every code leaves room for a count of four bits
 -- Assumes nothing.
 use mathlib.Core.Path.{_≡_, refl, _∙_, sym, ap}
-use mathlib.Core.Bool.{Bool, true, false, cond}
-use mathlib.Core.List.{List, map}
+use mathlib.Core.Bool.{Bool, true, false, not}
+use mathlib.Core.List.{List, [], _∷_, map}
 use Prim.Native.Nat.{ℕ, _+_, _≤_, _<_}
 use native.Mathlib.Nat.{le-antisymm}
-use borrow.Author.Tests.{eq-eqb, ne-eqb, eqb-true, ltb-true, le-ltb}
-use lib.Dec.{T, eqb, ltb}
 use native.Mathlib.Omega.{arith}
+use borrow.Author.Tests.{eq-eqb, ne-eqb, eqb-true, ltb-true, not-true}
+use lib.Dec.{T, eqb, ltb}
 use lib.ListN.{getD, drop, length}
 use Rattle.word.specs.declared.long.LongShift.the-variants.{Asl, Lsl, Rrl, Asr, Lsr, Rrr}
 use Rattle.code.specs.declared.codes.Register.the-variants.{A, B}
@@ -27,7 +29,6 @@ use Rattle.code.specs.declared.codes.Arithmetic.the-variants.{Mpy, Div, 
 use Rattle.code.specs.declared.codes.Bytes.the-variants.{Lbt, Sbt, Mbt, Cbt}
 use Rattle.code.specs.declared.codes.Bits.the-variants.{Sbs, Cbs, Tbs}
 use Rattle.code.specs.declared.codes.Words.the-variants.{Cmw, Mvw}
-use Rattle.code.specs.declared.codes.Extended.{Extended}
 use Rattle.code.specs.declared.codes.Extended.the-variants.{Cross, Transfer, Indexing, Arithmetic, Bytes, Bits, Words}
 use Rattle.code.specs.declared.codes.Kind.{Kind}
 use Rattle.code.specs.declared.codes.Kind.the-variants.{Exact, Long}
@@ -35,16 +36,16 @@ use Rattle.code.specs.declared.codes.Found.{Found}
 use Rattle.code.specs.declared.codes.Found.the-variants.{At, Nothing}
 use Rattle.code.specs.declared.codes.Entry.{Entry}
 use Rattle.code.specs.declared.codes.Row.{Row}
-use Rattle.code.specs.Kinds.{extendedNumber, longNumber, number, kept, holds, same}
-use Rattle.code.specs.Codes.{row, rows, first, covers, findWord, findKind, lengthOf}
-use Rattle.code.proofs.Truth.{both}
-use Rattle.code.proofs.Search.{none, entry, at-row, met, passed, every, every-at, given-every}
+use Rattle.code.specs.Kinds.{number, kindAt, isLong, kept, holds, same}
+use Rattle.code.specs.Codes.{row, rows, first, covers, findWord, findKind}
+use Rattle.code.proofs.Search.{entry, at-row, met, passed, every, every-at, given-every}
 
-abbrev pub kindOf : Found → Kind
-kindOf (At e) = e .kind
-kindOf Nothing = none .kind
+-- the kind of a row that was found
+abbrev kinds : Found → List Kind
+kinds (At e) = e .kind ∷ []
+kinds Nothing = []
 
-pub back : (k : Kind) → kindOf (findKind k) ≡ k
+pub back : (k : Kind) → kinds (findKind k) ≡ k ∷ []
 unfolding findKind rows
 back (Exact (Cross Xl A One)) = refl
 back (Exact (Cross Xl A Two)) = refl
@@ -110,80 +111,108 @@ back (Long Rrr) = refl
 
 pub once : (j k : Kind) → number j ≡ number k → j ≡ k
 unfolding findKind
-once j k h = sym (back j) ∙ ap (λ (n : ℕ). kindOf (first (λ e. eqb (number (e .kind)) n) rows)) h ∙ back k
+once j k h =
+    let z : j ∷ [] ≡ k ∷ [] = sym (back j) ∙ ap (λ (n : ℕ). kinds (first (λ e. eqb (number (e .kind)) n) rows)) h ∙ back k in cc
 
--- Exact codes have the numbers below 55, and long shifts those from 55 to 60: a test of each row.
-abbrev parted : Kind → Bool
-parted (Exact e) = ltb (extendedNumber e) 55
-parted (Long s) = cond (ltb 54 (longNumber s)) (ltb (longNumber s) 61) false
+pub kind-is : (k : Kind) (e : Entry) → findKind k ≡ At e → e .kind ≡ k
+kind-is k e h = let z : e .kind ∷ [] ≡ k ∷ [] = sym (ap kinds h) ∙ back k in cc
 
-all-parted : T (every (λ e. parted (e .kind)) rows)
+pub in-table : (q : Entry → Bool) → T (every q rows) → (k : Kind) → (e : Entry) × (findKind k ≡ At e) × (e .kind ≡ k) × (q e ≡ true)
+unfolding findKind
+in-table q t k = go (findKind k) refl
+  where
+    go : (f : Found) → findKind k ≡ f → (e : Entry) × (findKind k ≡ At e) × (e .kind ≡ k) × (q e ≡ true)
+    go (At e) h = (e, h, kind-is k e h, given-every (λ r. same (r .kind) k) e q rows t h)
+    go Nothing h = let z : [] ≡ k ∷ [] = sym (ap kinds h) ∙ back k in absurd (let y : _≡_ {A = ℕ} 0 1 = cc in omega arith)
+
+-- the kind at a row's number is the row's: a test of each row
+
+abbrev numbered : Entry → Bool
+numbered e = same (kindAt (number (e .kind))) (e .kind)
+
+all-numbered : T (every numbered rows)
 unfolding rows
-all-parted = tt
+all-numbered = tt
 
-small-of : (k : Kind) → parted k ≡ true → number k < 61
-small-of (Exact e) h = omega (arith, ltb-true (extendedNumber e) 55 h)
-small-of (Long s) h = ltb-true (longNumber s) 61 (both (ltb 54 (longNumber s)) (ltb (longNumber s) 61) h .1)
+numbered-kind : (e : Entry) → numbered e ≡ true → kindAt (number (e .kind)) ≡ e .kind
+numbered-kind e h = once (kindAt (number (e .kind))) (e .kind) (eqb-true (number (kindAt (number (e .kind)))) (number (e .kind)) h)
 
-holds-of : (w code : ℕ) (k : Kind) → parted k ≡ true → holds code (number k) w ≡ covers w (row code 0 k)
-holds-of w code (Exact e) h = rw h
-holds-of w code (Long s) h = rw (le-ltb (longNumber s) 55 (omega (arith, ltb-true 54 (longNumber s) (both (ltb 54 (longNumber s)) (ltb (longNumber s) 61) h .0))))
+pub at-number : (k : Kind) → kindAt (number k) ≡ k
+at-number k = let r = in-table numbered all-numbered k in rw (r .2) at (numbered-kind (r .0) (r .3))
 
-parted-at : (i : ℕ) → i < length rows → parted (entry rows i .kind) ≡ true
-parted-at i h = every-at (λ e. parted (e .kind)) rows all-parted i h
+-- long shifts alone have numbers of their group: a test of each row
+
+abbrev told : Kind → Bool
+told (Exact e) = not (isLong (number (Exact e)))
+told (Long s) = isLong (number (Long s))
+
+all-told : T (every (λ e. told (e .kind)) rows)
+unfolding rows
+all-told = tt
+
+holds-of : (w code : ℕ) (k : Kind) → told k ≡ true → holds code (number k) w ≡ covers w (row code 0 k)
+holds-of w code (Exact e) h = rw (not-true (isLong (number (Exact e))) h)
+holds-of w code (Long s) h = rw h
+
+-- A turn of a search.
 
 abbrev line : List Row → ℕ → Row
 line t i = getD t i (record { 0 = 0; 1 = 0; 2 = 0 })
 
-sixty-one : length rows ≡ 61
-unfolding rows
-sixty-one = refl
+-- how many rows there are
+abbrev pub size : ℕ
+size = 61
 
-module _ (t : List Row) (kept-so : t ≡ map kept rows) (i : ℕ) (below : i < 61) where
+sized : length rows ≡ size
+unfolding rows
+sized = refl
+
+module _ (t : List Row) (kept-so : t ≡ map kept rows) (i : ℕ) (below : i < size) where
   line-is : line t i ≡ kept (entry rows i)
   line-is = rw kept-so (at-row rows i)
 
   within : i < length rows
-  within = rw sixty-one below
+  within = rw sized below
 
-  -- the row that the code puts together from the line and a kind with the line's number
+  -- the row that the code puts together from the line and the row's kind
   rebuilt :
-      (k : Kind) → number (entry rows i .kind) ≡ number k →
+      (k : Kind) → entry rows i .kind ≡ k →
       At (record { code = line t i .0; length = line t i .1; kind = k }) ≡ At (entry rows i)
   rebuilt k h =
       ap (λ (x : Row). At (record { code = x .0; length = x .1; kind = k })) line-is
-      ∙ ap (λ (j : Kind). At (record { code = entry rows i .code; length = entry rows i .length; kind = j })) (sym (once (entry rows i .kind) k h))
+      ∙ ap (λ (j : Kind). At (record { code = entry rows i .code; length = entry rows i .length; kind = j })) (sym h)
 
   module _ (k : Kind) (so : first (λ e. same (e .kind) k) (drop i rows) ≡ findKind k) where
     pub kind-met :
         line t i .2 ≡ number k → At (record { code = line t i .0; length = line t i .1; kind = k }) ≡ findKind k
     kind-met h =
         let n : number (entry rows i .kind) ≡ number k = sym (ap (λ (x : Row). x .2) line-is) ∙ h in
-        rebuilt k n ∙ sym (met (λ e. same (e .kind) k) rows i within (eq-eqb (number (entry rows i .kind)) (number k) n)) ∙ so
+        rebuilt k (once (entry rows i .kind) k n)
+        ∙ sym (met (λ e. same (e .kind) k) rows i within (eq-eqb (number (entry rows i .kind)) (number k) n)) ∙ so
 
     pub kind-passed : (line t i .2 ≡ number k → ⊥) → first (λ e. same (e .kind) k) (drop (i + 1) rows) ≡ findKind k
     kind-passed h =
         let n : number (entry rows i .kind) ≡ number k → ⊥ = λ e. h (ap (λ (x : Row). x .2) line-is ∙ e) in
         passed (λ e. same (e .kind) k) rows i within (ne-eqb (number (entry rows i .kind)) (number k) n) ∙ so
 
-  pub small : line t i .2 < 61
-  small = rw (ap (λ (x : Row). x .2) line-is) (small-of (entry rows i .kind) (parted-at i within))
-
   module _ (w : ℕ) (so : first (covers w) (drop i rows) ≡ findWord w) where
     covers-is : (b : Bool) → holds (line t i .0) (line t i .2) w ≡ b → covers w (entry rows i) ≡ b
-    covers-is b h = sym (holds-of w (entry rows i .code) (entry rows i .kind) (parted-at i within)) ∙ ap (λ (x : Row). holds (x .0) (x .2) w) (sym line-is) ∙ h
+    covers-is b h =
+        sym (holds-of w (entry rows i .code) (entry rows i .kind) (every-at (λ e. told (e .kind)) rows all-told i within))
+        ∙ ap (λ (x : Row). holds (x .0) (x .2) w) (sym line-is) ∙ h
 
     pub word-met :
-        holds (line t i .0) (line t i .2) w ≡ true → (k : Kind) → number k ≡ line t i .2 →
+        holds (line t i .0) (line t i .2) w ≡ true → (k : Kind) → k ≡ kindAt (line t i .2) →
         At (record { code = line t i .0; length = line t i .1; kind = k }) ≡ findWord w
     word-met h k n =
-        rebuilt k (sym (ap (λ (x : Row). x .2) line-is) ∙ sym n) ∙ sym (met (covers w) rows i within (covers-is true h)) ∙ so
+        let kind = sym (numbered-kind (entry rows i) (every-at numbered rows all-numbered i within)) in
+        rebuilt k (kind ∙ ap (λ (x : Row). kindAt (x .2)) (sym line-is) ∙ sym n) ∙ sym (met (covers w) rows i within (covers-is true h)) ∙ so
 
     pub word-passed : holds (line t i .0) (line t i .2) w ≡ false → first (covers w) (drop (i + 1) rows) ≡ findWord w
     word-passed h = passed (covers w) rows i within (covers-is false h) ∙ so
 
 -- past the last row there is nothing
-pub past : (p : Entry → Bool) (i : ℕ) → i ≤ 61 → 61 ≤ i → first p (drop i rows) ≡ Nothing
+pub past : (p : Entry → Bool) (i : ℕ) → i ≤ size → size ≤ i → first p (drop i rows) ≡ Nothing
 unfolding rows
 past p i h h′ = rw (le-antisymm h h′) refl
 
@@ -195,51 +224,3 @@ codes-small = tt
 pub code-small : (k : Kind) (e : Entry) → findKind k ≡ At e → e .code < 0o106000
 unfolding findKind
 code-small k e h = ltb-true (e .code) 0o106000 (given-every (λ r. same (r .kind) k) e (λ r. ltb (r .code) 0o106000) rows codes-small h)
-
--- How many words each mnemonic takes, whatever its register, index register or map: a test of each row.
-
-abbrev pub words-of : Extended → ℕ
-words-of (Cross o r m) = 2
-words-of (Transfer Sax r x) = 2
-words-of (Transfer Cax r x) = 1
-words-of (Transfer Lax r x) = 2
-words-of (Transfer Cxa r x) = 1
-words-of (Transfer Xax r x) = 1
-words-of (Indexing Stx x) = 2
-words-of (Indexing Ldx x) = 2
-words-of (Indexing Adx x) = 2
-words-of (Indexing Isx x) = 1
-words-of (Indexing Dsx x) = 1
-words-of (Arithmetic o) = 2
-words-of (Bytes Lbt) = 1
-words-of (Bytes Sbt) = 1
-words-of (Bytes Mbt) = 3
-words-of (Bytes Cbt) = 3
-words-of (Bits o) = 3
-words-of (Words o) = 3
-
-abbrev measured : Entry → Kind → Bool
-measured r (Exact e) = eqb (r .length) (words-of e)
-measured r (Long s) = eqb (r .length) 1
-
-lengths-right : T (every (λ r. measured r (r .kind)) rows)
-unfolding rows
-lengths-right = tt
-
-none-length : lengthOf (Cross Xl A One) ≡ 2
-unfolding lengthOf findKind rows
-none-length = refl
-
-pub length-is : (e : Extended) → lengthOf e ≡ words-of e
-unfolding lengthOf findKind
-length-is e = go (findKind (Exact e)) refl
-  where
-    go : (f : Found) → findKind (Exact e) ≡ f → lengthOf e ≡ words-of e
-    go (At r) h =
-        let k : r .kind ≡ Exact e = sym (ap kindOf h) ∙ back (Exact e) in
-        let t = given-every (λ q. same (q .kind) (Exact e)) r (λ q. measured q (q .kind)) rows lengths-right h in
-        rw (h, lengthOf) (eqb-true (r .length) (words-of e) (rw k at t))
-    go Nothing h =
-        let k : none .kind ≡ Exact e = sym (ap kindOf h) ∙ back (Exact e) in
-        let p : Cross Xl A One ≡ e = cc in
-        rw (← p) none-length

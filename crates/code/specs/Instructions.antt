@@ -31,6 +31,7 @@ use Rattle.code.specs.declared.instructions.Instruction.{Instruction}
 use Rattle.code.specs.declared.instructions.Instruction.the-variants.{MemoryReference, ShiftRotate, AlterSkip, InputOutput, LongShift as Shift, Extended, NotBuilt}
 use Rattle.code.specs.declared.instructions.Written.{Written}
 use Rattle.code.specs.declared.instructions.Written.the-variants.{Word, NoWord}
+pub use Rattle.code.specs.Kinds.{registers, registerAt}
 use Rattle.code.specs.Codes.{findWord, findKind}
 
 -- The fields that are a choice: each choice and its number, and the choice at a number; past the last it is the last.
@@ -62,12 +63,6 @@ operationAt n = getD operations (n - 2) Stb
 abbrev pub registerFlag : Register → ℕ
 registerFlag A = 0
 registerFlag B = 1
-
-abbrev pub registers : List Register
-registers = A ∷ B ∷ []
-
-abbrev pub registerAt : ℕ → Register
-registerAt n = getD registers n B
 
 -- "Shift codes 0 to 7: ALS, ARS, RAL, RAR, ALR, ERA, ELA, ALF"
 abbrev pub shiftNumber : ShiftCode → ℕ

@@ -1,13 +1,18 @@
--- The kinds of an extended code, numbered from 0 to 60, by which the table of src/ names them:
+-- The kinds of an extended code, and the numbers by which the table of src/ names them. A number is made of small numbers,
+--     group * 64 + operation * 4 + register * 2 + index register or map
+-- so one more operation of a group, of which there is room for 16, moves no other number:
 --     number        of a kind
+--     kindAt        the kind at a number
 --     kept          a row as that table keeps it
 --     holds         whether a row so kept is the row of a word
 --     same          whether two kinds are the same, told by their numbers
--- That no two kinds have the same number is in proofs/Table.antt. The table is in Codes.
--- Assumes nothing.
-use Prim.Native.Nat.{ℕ, _+_, _/_}
+-- That no two kinds have the same number, and that each kind is the one at its number, is in proofs/Table.antt. The table is in
+-- Codes. Assumes nothing.
+use Prim.Native.Nat.{ℕ, _+_, _/_, _%_}
 use mathlib.Core.Bool.{Bool, cond}
-use lib.Dec.{eqb, ltb}
+use mathlib.Core.List.{List, [], _∷_}
+use lib.Dec.{eqb}
+use lib.ListN.{getD}
 use Rattle.word.specs.declared.long.LongShift.{LongShift}
 use Rattle.word.specs.declared.long.LongShift.the-variants.{Asl, Lsl, Rrl, Asr, Lsr, Rrr}
 use Rattle.code.specs.declared.codes.Register.{Register}
@@ -37,6 +42,8 @@ use Rattle.code.specs.declared.codes.Kind.the-variants.{Exact, Long}
 use Rattle.code.specs.declared.codes.Entry.{Entry}
 use Rattle.code.specs.declared.codes.Row.{Row}
 
+-- From a kind to its number.
+
 abbrev pub registerNumber : Register → ℕ
 registerNumber A = 0
 registerNumber B = 2
@@ -50,52 +57,52 @@ dataNumber One = 0
 dataNumber Two = 1
 
 abbrev pub crossNumber : enum-Cross.Cross → ℕ
-crossNumber Xl = 0
-crossNumber Xs = 4
-crossNumber Xc = 8
+crossNumber Xl = 0o000
+crossNumber Xs = 0o004
+crossNumber Xc = 0o010
 
 abbrev pub transferNumber : enum-Transfer.Transfer → ℕ
-transferNumber Sax = 12
-transferNumber Cax = 16
-transferNumber Lax = 20
-transferNumber Cxa = 24
-transferNumber Xax = 28
+transferNumber Sax = 0o100
+transferNumber Cax = 0o104
+transferNumber Lax = 0o110
+transferNumber Cxa = 0o114
+transferNumber Xax = 0o120
 
 abbrev pub indexingNumber : enum-Indexing.Indexing → ℕ
-indexingNumber Stx = 32
-indexingNumber Ldx = 34
-indexingNumber Adx = 36
-indexingNumber Isx = 38
-indexingNumber Dsx = 40
+indexingNumber Stx = 0o200
+indexingNumber Ldx = 0o204
+indexingNumber Adx = 0o210
+indexingNumber Isx = 0o214
+indexingNumber Dsx = 0o220
 
 abbrev pub arithmeticNumber : enum-Arithmetic.Arithmetic → ℕ
-arithmeticNumber Mpy = 42
-arithmeticNumber Div = 43
-arithmeticNumber Dld = 44
-arithmeticNumber Dst = 45
+arithmeticNumber Mpy = 0o300
+arithmeticNumber Div = 0o304
+arithmeticNumber Dld = 0o310
+arithmeticNumber Dst = 0o314
 
 abbrev pub bytesNumber : enum-Bytes.Bytes → ℕ
-bytesNumber Lbt = 46
-bytesNumber Sbt = 47
-bytesNumber Mbt = 48
-bytesNumber Cbt = 49
+bytesNumber Lbt = 0o400
+bytesNumber Sbt = 0o404
+bytesNumber Mbt = 0o410
+bytesNumber Cbt = 0o414
 
 abbrev pub bitsNumber : enum-Bits.Bits → ℕ
-bitsNumber Sbs = 50
-bitsNumber Cbs = 51
-bitsNumber Tbs = 52
+bitsNumber Sbs = 0o500
+bitsNumber Cbs = 0o504
+bitsNumber Tbs = 0o510
 
 abbrev pub wordsNumber : enum-Words.Words → ℕ
-wordsNumber Cmw = 53
-wordsNumber Mvw = 54
+wordsNumber Cmw = 0o600
+wordsNumber Mvw = 0o604
 
 abbrev pub longNumber : LongShift → ℕ
-longNumber Asl = 55
-longNumber Lsl = 56
-longNumber Rrl = 57
-longNumber Asr = 58
-longNumber Lsr = 59
-longNumber Rrr = 60
+longNumber Asl = 0o700
+longNumber Lsl = 0o704
+longNumber Rrl = 0o710
+longNumber Asr = 0o714
+longNumber Lsr = 0o720
+longNumber Rrr = 0o724
 
 abbrev pub extendedNumber : Extended → ℕ
 extendedNumber (Cross o r d) = crossNumber o + registerNumber r + dataNumber d
@@ -110,11 +117,71 @@ abbrev pub number : Kind → ℕ
 number (Exact e) = extendedNumber e
 number (Long s) = longNumber s
 
+-- From a number to its kind: the choices in their order, and past them the last.
+
+abbrev pub registers : List Register
+registers = A ∷ B ∷ []
+
+abbrev pub registerAt : ℕ → Register
+registerAt n = getD registers n B
+
+abbrev pub indexAt : ℕ → Index
+indexAt n = getD (X ∷ []) n Y
+
+abbrev pub dataAt : ℕ → Data
+dataAt n = getD (One ∷ []) n Two
+
+abbrev pub crossAt : ℕ → enum-Cross.Cross
+crossAt n = getD (Xl ∷ Xs ∷ []) n Xc
+
+abbrev pub transferAt : ℕ → enum-Transfer.Transfer
+transferAt n = getD (Sax ∷ Cax ∷ Lax ∷ Cxa ∷ []) n Xax
+
+abbrev pub indexingAt : ℕ → enum-Indexing.Indexing
+indexingAt n = getD (Stx ∷ Ldx ∷ Adx ∷ Isx ∷ []) n Dsx
+
+abbrev pub arithmeticAt : ℕ → enum-Arithmetic.Arithmetic
+arithmeticAt n = getD (Mpy ∷ Div ∷ Dld ∷ []) n Dst
+
+abbrev pub bytesAt : ℕ → enum-Bytes.Bytes
+bytesAt n = getD (Lbt ∷ Sbt ∷ Mbt ∷ []) n Cbt
+
+abbrev pub bitsAt : ℕ → enum-Bits.Bits
+bitsAt n = getD (Sbs ∷ Cbs ∷ []) n Tbs
+
+abbrev pub wordsAt : ℕ → enum-Words.Words
+wordsAt n = getD (Cmw ∷ []) n Mvw
+
+abbrev pub longAt : ℕ → LongShift
+longAt n = getD (Asl ∷ Lsl ∷ Rrl ∷ Asr ∷ Lsr ∷ []) n Rrr
+
+-- of a group, an operation, a register and an index register or map
+abbrev pub kindOf : ℕ → ℕ → ℕ → ℕ → Kind
+kindOf group operation register index =
+    getD
+    (Exact (Cross (crossAt operation) (registerAt register) (dataAt index))
+    ∷ Exact (Transfer (transferAt operation) (registerAt register) (indexAt index))
+    ∷ Exact (Indexing (indexingAt operation) (indexAt index))
+    ∷ Exact (Arithmetic (arithmeticAt operation))
+    ∷ Exact (Bytes (bytesAt operation))
+    ∷ Exact (Bits (bitsAt operation))
+    ∷ Exact (Words (wordsAt operation))
+    ∷ []) group (Long (longAt operation))
+
+abbrev pub kindAt : ℕ → Kind
+kindAt n = kindOf (n / 64) (n / 4 % 16) (n / 2 % 2) (n % 2)
+
+-- The table of src/.
+
 abbrev pub kept : Entry → Row
 kept e = record { 0 = e .code; 1 = e .length; 2 = number (e .kind) }
 
+-- the group of the long shifts
+abbrev pub isLong : ℕ → Bool
+isLong n = eqb (n / 64) 7
+
 abbrev pub holds : ℕ → ℕ → ℕ → Bool
-holds code n word = cond (ltb n 55) (eqb word code) (eqb (word / 16) (code / 16))
+holds code n word = cond (isLong n) (eqb (word / 16) (code / 16)) (eqb word code)
 
 abbrev pub same : Kind → Kind → Bool
 same j k = eqb (number j) (number k)

@@ -1,12 +1,15 @@
 // The extended codes: one table of code, length and kind, searched by word for the reader and by kind for
 // the writer.
+use crate::choices::register_at;
 use word::long::LongShift;
 ghost use mathlib.Core.Path.{_≡_};
 ghost use mathlib.Core.List.{map};
-ghost use Prim.Native.Nat.{_<_, _≤_, _+_, _*_, _/_, _%_};
+ghost use Prim.Native.Nat.{_≤_, _<_};
 ghost use Rattle.code.specs.Kinds.{registerNumber, indexNumber, dataNumber};
 ghost use Rattle.code.specs.Kinds.{crossNumber, transferNumber, indexingNumber, arithmeticNumber, bytesNumber, bitsNumber, wordsNumber, longNumber};
-ghost use Rattle.code.specs.Kinds.{extendedNumber, number, kept, holds};
+ghost use Rattle.code.specs.Kinds.{extendedNumber, number, indexAt, dataAt};
+ghost use Rattle.code.specs.Kinds.{crossAt, transferAt, indexingAt, arithmeticAt, bytesAt, bitsAt, wordsAt, longAt};
+ghost use Rattle.code.specs.Kinds.{kindOf, kindAt, kept, holds};
 ghost use Rattle.code.specs.Codes.{rows, findWord, findKind, lengthOf, privileged};
 
 pub enum Register {
@@ -108,71 +111,75 @@ pub enum Found {
 // A row as the table keeps it: code, length, and the number of the kind.
 struct Row(u16, u16, u16);
 
-// The kinds are numbered from 0 to 60. A mnemonic with a register has four numbers and one with an index
-// register alone has two: `B` is added for B, `Y` for Y and `TWO` for DATA2.
-const XL: u16 = 0;
+// A kind's number is group * 64 + operation * 4 + register * 2 + index: in octal, a digit for the group, then
+// two for the operation, to which `B` is added for B, `Y` for Y and `TWO` for DATA2. So one more operation is
+// one more number of its group, and moves no other.
+const XL: u16 = 0o000;
 
-const XS: u16 = 4;
+const XS: u16 = 0o004;
 
-const XC: u16 = 8;
+const XC: u16 = 0o010;
 
-const SAX: u16 = 12;
+const SAX: u16 = 0o100;
 
-const CAX: u16 = 16;
+const CAX: u16 = 0o104;
 
-const LAX: u16 = 20;
+const LAX: u16 = 0o110;
 
-const CXA: u16 = 24;
+const CXA: u16 = 0o114;
 
-const XAX: u16 = 28;
+const XAX: u16 = 0o120;
 
-const STX: u16 = 32;
+const STX: u16 = 0o200;
 
-const LDX: u16 = 34;
+const LDX: u16 = 0o204;
 
-const ADX: u16 = 36;
+const ADX: u16 = 0o210;
 
-const ISX: u16 = 38;
+const ISX: u16 = 0o214;
 
-const DSX: u16 = 40;
+const DSX: u16 = 0o220;
 
-const MPY: u16 = 42;
+const MPY: u16 = 0o300;
 
-const DIV: u16 = 43;
+const DIV: u16 = 0o304;
 
-const DLD: u16 = 44;
+const DLD: u16 = 0o310;
 
-const DST: u16 = 45;
+const DST: u16 = 0o314;
 
-const LBT: u16 = 46;
+const LBT: u16 = 0o400;
 
-const SBT: u16 = 47;
+const SBT: u16 = 0o404;
 
-const MBT: u16 = 48;
+const MBT: u16 = 0o410;
 
-const CBT: u16 = 49;
+const CBT: u16 = 0o414;
 
-const SBS: u16 = 50;
+const SBS: u16 = 0o500;
 
-const CBS: u16 = 51;
+const CBS: u16 = 0o504;
 
-const TBS: u16 = 52;
+const TBS: u16 = 0o510;
 
-const CMW: u16 = 53;
+const CMW: u16 = 0o600;
 
-const MVW: u16 = 54;
+const MVW: u16 = 0o604;
 
-const ASL: u16 = 55;
+const ASL: u16 = 0o700;
 
-const LSL: u16 = 56;
+const LSL: u16 = 0o704;
 
-const RRL: u16 = 57;
+const RRL: u16 = 0o710;
 
-const ASR: u16 = 58;
+const ASR: u16 = 0o714;
 
-const LSR: u16 = 59;
+const LSR: u16 = 0o720;
 
-const RRR: u16 = 60;
+const RRR: u16 = 0o724;
+
+// The group of the long shifts.
+const LONG: u16 = 7;
 
 const B: u16 = 2;
 
@@ -180,7 +187,9 @@ const Y: u16 = 1;
 
 const TWO: u16 = 1;
 
-const TABLE: [Row; 61] = [
+const ROWS: usize = 61;
+
+const TABLE: [Row; ROWS] = [
     Row(0o100020, 1, ASL),
     Row(0o100040, 1, LSL),
     Row(0o100100, 1, RRL),
@@ -244,13 +253,13 @@ const TABLE: [Row; 61] = [
     Row(0o105777, 3, MVW),
 ];
 
-fn table() -> [Row; 61]
+fn table() -> [Row; ROWS]
     ensures { λ r. ⌜ r ≡ map kept rows ⌝ }
 {
     TABLE
 }
 
-// From a kind to its number.
+// From a kind to its number. The bounds are for the sums.
 
 fn register_number(register: Register) -> u16
     ensures is { λ r. ⌜ r ≡ registerNumber register ⌝ }
@@ -284,7 +293,7 @@ fn data_number(map: Data) -> u16
 
 fn cross_number(operation: Cross) -> u16
     ensures is { λ r. ⌜ r ≡ crossNumber operation ⌝ }
-    ensures small { λ r. ⌜ r ≤ 60 ⌝ }
+    ensures small { λ r. ⌜ r < 0o1000 ⌝ }
 {
     match operation {
         Cross::Xl => XL,
@@ -295,7 +304,7 @@ fn cross_number(operation: Cross) -> u16
 
 fn transfer_number(operation: Transfer) -> u16
     ensures is { λ r. ⌜ r ≡ transferNumber operation ⌝ }
-    ensures small { λ r. ⌜ r ≤ 60 ⌝ }
+    ensures small { λ r. ⌜ r < 0o1000 ⌝ }
 {
     match operation {
         Transfer::Sax => SAX,
@@ -308,7 +317,7 @@ fn transfer_number(operation: Transfer) -> u16
 
 fn indexing_number(operation: Indexing) -> u16
     ensures is { λ r. ⌜ r ≡ indexingNumber operation ⌝ }
-    ensures small { λ r. ⌜ r ≤ 60 ⌝ }
+    ensures small { λ r. ⌜ r < 0o1000 ⌝ }
 {
     match operation {
         Indexing::Stx => STX,
@@ -320,8 +329,7 @@ fn indexing_number(operation: Indexing) -> u16
 }
 
 fn arithmetic_number(operation: Arithmetic) -> u16
-    ensures is { λ r. ⌜ r ≡ arithmeticNumber operation ⌝ }
-    ensures small { λ r. ⌜ r ≤ 60 ⌝ }
+    ensures { λ r. ⌜ r ≡ arithmeticNumber operation ⌝ }
 {
     match operation {
         Arithmetic::Mpy => MPY,
@@ -332,8 +340,7 @@ fn arithmetic_number(operation: Arithmetic) -> u16
 }
 
 fn bytes_number(operation: Bytes) -> u16
-    ensures is { λ r. ⌜ r ≡ bytesNumber operation ⌝ }
-    ensures small { λ r. ⌜ r ≤ 60 ⌝ }
+    ensures { λ r. ⌜ r ≡ bytesNumber operation ⌝ }
 {
     match operation {
         Bytes::Lbt => LBT,
@@ -344,8 +351,7 @@ fn bytes_number(operation: Bytes) -> u16
 }
 
 fn bits_number(operation: Bits) -> u16
-    ensures is { λ r. ⌜ r ≡ bitsNumber operation ⌝ }
-    ensures small { λ r. ⌜ r ≤ 60 ⌝ }
+    ensures { λ r. ⌜ r ≡ bitsNumber operation ⌝ }
 {
     match operation {
         Bits::Sbs => SBS,
@@ -355,8 +361,7 @@ fn bits_number(operation: Bits) -> u16
 }
 
 fn words_number(operation: Words) -> u16
-    ensures is { λ r. ⌜ r ≡ wordsNumber operation ⌝ }
-    ensures small { λ r. ⌜ r ≤ 60 ⌝ }
+    ensures { λ r. ⌜ r ≡ wordsNumber operation ⌝ }
 {
     match operation {
         Words::Cmw => CMW,
@@ -365,8 +370,7 @@ fn words_number(operation: Words) -> u16
 }
 
 fn long_number(operation: LongShift) -> u16
-    ensures is { λ r. ⌜ r ≡ longNumber operation ⌝ }
-    ensures small { λ r. ⌜ r ≤ 60 ⌝ }
+    ensures { λ r. ⌜ r ≡ longNumber operation ⌝ }
 {
     match operation {
         LongShift::Asl => ASL,
@@ -405,35 +409,30 @@ fn kind_number(kind: Kind) -> u16
     }
 }
 
-// From a number to the kind that has it.
+// From a number to its kind, by its parts. A part past the last choice gives the last.
 
-fn register_at(n: u16) -> Register
-    ensures { λ r. ⌜ registerNumber r ≡ n / 2 % 2 * 2 ⌝ }
+fn index_at(n: u16) -> Index
+    ensures { λ r. ⌜ r ≡ indexAt n ⌝ }
 {
-    if n / 2 % 2 == 1 {
-        Register::B
-    } else {
-        Register::A
+    match n {
+        0 => Index::X,
+        _ => Index::Y,
     }
 }
 
-fn index_at(n: u16) -> Index
-    ensures { λ r. ⌜ indexNumber r ≡ n % 2 ⌝ }
-{
-    if n % 2 == 1 { Index::Y } else { Index::X }
-}
-
 fn data_at(n: u16) -> Data
-    ensures { λ r. ⌜ dataNumber r ≡ n % 2 ⌝ }
+    ensures { λ r. ⌜ r ≡ dataAt n ⌝ }
 {
-    if n % 2 == 1 { Data::Two } else { Data::One }
+    match n {
+        0 => Data::One,
+        _ => Data::Two,
+    }
 }
 
 fn cross_at(n: u16) -> Cross
-    requires { ⌜ n < 12 ⌝ }
-    ensures { λ r. ⌜ crossNumber r ≡ n / 4 * 4 ⌝ }
+    ensures { λ r. ⌜ r ≡ crossAt n ⌝ }
 {
-    match n / 4 {
+    match n {
         0 => Cross::Xl,
         1 => Cross::Xs,
         _ => Cross::Xc,
@@ -441,133 +440,120 @@ fn cross_at(n: u16) -> Cross
 }
 
 fn transfer_at(n: u16) -> Transfer
-    requires { ⌜ (12 ≤ n) × (n < 32) ⌝ }
-    ensures { λ r. ⌜ transferNumber r ≡ n / 4 * 4 ⌝ }
+    ensures { λ r. ⌜ r ≡ transferAt n ⌝ }
 {
-    match n / 4 {
-        3 => Transfer::Sax,
-        4 => Transfer::Cax,
-        5 => Transfer::Lax,
-        6 => Transfer::Cxa,
+    match n {
+        0 => Transfer::Sax,
+        1 => Transfer::Cax,
+        2 => Transfer::Lax,
+        3 => Transfer::Cxa,
         _ => Transfer::Xax,
     }
 }
 
 fn indexing_at(n: u16) -> Indexing
-    requires { ⌜ (32 ≤ n) × (n < 42) ⌝ }
-    ensures { λ r. ⌜ indexingNumber r ≡ n / 2 * 2 ⌝ }
+    ensures { λ r. ⌜ r ≡ indexingAt n ⌝ }
 {
-    match n / 2 {
-        16 => Indexing::Stx,
-        17 => Indexing::Ldx,
-        18 => Indexing::Adx,
-        19 => Indexing::Isx,
+    match n {
+        0 => Indexing::Stx,
+        1 => Indexing::Ldx,
+        2 => Indexing::Adx,
+        3 => Indexing::Isx,
         _ => Indexing::Dsx,
     }
 }
 
 fn arithmetic_at(n: u16) -> Arithmetic
-    requires { ⌜ (42 ≤ n) × (n < 46) ⌝ }
-    ensures { λ r. ⌜ arithmeticNumber r ≡ n ⌝ }
+    ensures { λ r. ⌜ r ≡ arithmeticAt n ⌝ }
 {
     match n {
-        MPY => Arithmetic::Mpy,
-        DIV => Arithmetic::Div,
-        DLD => Arithmetic::Dld,
+        0 => Arithmetic::Mpy,
+        1 => Arithmetic::Div,
+        2 => Arithmetic::Dld,
         _ => Arithmetic::Dst,
     }
 }
 
 fn bytes_at(n: u16) -> Bytes
-    requires { ⌜ (46 ≤ n) × (n < 50) ⌝ }
-    ensures { λ r. ⌜ bytesNumber r ≡ n ⌝ }
+    ensures { λ r. ⌜ r ≡ bytesAt n ⌝ }
 {
     match n {
-        LBT => Bytes::Lbt,
-        SBT => Bytes::Sbt,
-        MBT => Bytes::Mbt,
+        0 => Bytes::Lbt,
+        1 => Bytes::Sbt,
+        2 => Bytes::Mbt,
         _ => Bytes::Cbt,
     }
 }
 
 fn bits_at(n: u16) -> Bits
-    requires { ⌜ (50 ≤ n) × (n < 53) ⌝ }
-    ensures { λ r. ⌜ bitsNumber r ≡ n ⌝ }
+    ensures { λ r. ⌜ r ≡ bitsAt n ⌝ }
 {
     match n {
-        SBS => Bits::Sbs,
-        CBS => Bits::Cbs,
+        0 => Bits::Sbs,
+        1 => Bits::Cbs,
         _ => Bits::Tbs,
     }
 }
 
 fn words_at(n: u16) -> Words
-    requires { ⌜ (53 ≤ n) × (n < 55) ⌝ }
-    ensures { λ r. ⌜ wordsNumber r ≡ n ⌝ }
+    ensures { λ r. ⌜ r ≡ wordsAt n ⌝ }
 {
     match n {
-        CMW => Words::Cmw,
+        0 => Words::Cmw,
         _ => Words::Mvw,
     }
 }
 
 fn long_at(n: u16) -> LongShift
-    requires { ⌜ (55 ≤ n) × (n < 61) ⌝ }
-    ensures { λ r. ⌜ longNumber r ≡ n ⌝ }
+    ensures { λ r. ⌜ r ≡ longAt n ⌝ }
 {
     match n {
-        ASL => LongShift::Asl,
-        LSL => LongShift::Lsl,
-        RRL => LongShift::Rrl,
-        ASR => LongShift::Asr,
-        LSR => LongShift::Lsr,
+        0 => LongShift::Asl,
+        1 => LongShift::Lsl,
+        2 => LongShift::Rrl,
+        3 => LongShift::Asr,
+        4 => LongShift::Lsr,
         _ => LongShift::Rrr,
     }
 }
 
-fn extended_at(n: u16) -> Extended
-    requires { ⌜ n < 55 ⌝ }
-    ensures { λ r. ⌜ extendedNumber r ≡ n ⌝ }
+fn kind_of(group: u16, operation: u16, register: u16, index: u16) -> Kind
+    ensures { λ r. ⌜ r ≡ kindOf group operation register index ⌝ }
 {
-    if n < 12 {
-        return Extended::Cross(cross_at(n), register_at(n), data_at(n));
+    match group {
+        0 => Kind::Exact(Extended::Cross(
+            cross_at(operation),
+            register_at(register),
+            data_at(index),
+        )),
+        1 => Kind::Exact(Extended::Transfer(
+            transfer_at(operation),
+            register_at(register),
+            index_at(index),
+        )),
+        2 => Kind::Exact(Extended::Indexing(indexing_at(operation), index_at(index))),
+        3 => Kind::Exact(Extended::Arithmetic(arithmetic_at(operation))),
+        4 => Kind::Exact(Extended::Bytes(bytes_at(operation))),
+        5 => Kind::Exact(Extended::Bits(bits_at(operation))),
+        6 => Kind::Exact(Extended::Words(words_at(operation))),
+        _ => Kind::Long(long_at(operation)),
     }
-    if n < 32 {
-        return Extended::Transfer(transfer_at(n), register_at(n), index_at(n));
-    }
-    if n < 42 {
-        return Extended::Indexing(indexing_at(n), index_at(n));
-    }
-    if n < 46 {
-        return Extended::Arithmetic(arithmetic_at(n));
-    }
-    if n < 50 {
-        return Extended::Bytes(bytes_at(n));
-    }
-    if n < 53 {
-        return Extended::Bits(bits_at(n));
-    }
-    Extended::Words(words_at(n))
 }
 
 fn kind_at(n: u16) -> Kind
-    requires { ⌜ n < 61 ⌝ }
-    ensures { λ r. ⌜ number r ≡ n ⌝ }
+    ensures { λ r. ⌜ r ≡ kindAt n ⌝ }
 {
-    if n < ASL {
-        return Kind::Exact(extended_at(n));
-    }
-    Kind::Long(long_at(n))
+    kind_of(n / 64, n / 4 % 16, n / 2 % 2, n % 2)
 }
 
 // Whether a row with this code and this kind is the row of a word.
 fn row_holds(code: u16, n: u16, word: u16) -> bool
     ensures { λ r. ⌜ r ≡ holds code n word ⌝ }
 {
-    if n < ASL {
-        return word == code;
+    if n / 64 == LONG {
+        return word / 16 == code / 16;
     }
-    word / 16 == code / 16
+    word == code
 }
 
 pub fn find_word(word: u16) -> Found
@@ -575,7 +561,7 @@ pub fn find_word(word: u16) -> Found
 {
     let rows = table();
     let mut i: usize = 0;
-    while i < 61 {
+    while i < ROWS {
         let row = rows[i];
         let code = row.0;
         let length = row.1;
@@ -595,7 +581,7 @@ pub fn find_kind(kind: Kind) -> Found
     let rows = table();
     let wanted = kind_number(kind);
     let mut i: usize = 0;
-    while i < 61 {
+    while i < ROWS {
         let row = rows[i];
         let code = row.0;
         let length = row.1;

@@ -8,7 +8,7 @@
 --     Chains                     where they end
 --     Whole pages                a range is tested page by page
 --     Ranges                     words, pages and addresses stay in their ranges
--- The definitions are in `Pages`, `Access`, `Chains` and `Open`. Lemmas that only the proofs need are in `Behind`.
+-- The definitions are in `Pages`, `Access`, `Chains` and `Open`. Lemmas that only the proofs need are in `Accesses`.
 -- Assumes nothing.
 use Prim.Native.Nat.{ℕ, _<_, _≤_, _+_, _-_, _*_, _/_, _%_}
 use native.Mathlib.Omega.{arith}
@@ -26,7 +26,7 @@ use Rattle.maps.specs.Troubles.{numberTrouble, numberGot, numberTested}
 use Rattle.maps.specs.Access.{held, fetched, put}
 use Rattle.maps.specs.Chains.{chased, executeWord, chain}
 use Rattle.maps.specs.Open.{OpenTo, OpenToRead, OpenToStore, Agree}
-use Rattle.maps.proofs.Behind.{never, in-memory, or-true, or-left, or-right, and-left, and-right, both-open, number-of, closed-by, reached-by, absent-by, whole, beyond, fifteen-register, fifteen-page, held-same, held-word, held-ends, held-number, held-range, set-cases, set-either, chased-ends, chased-on, chased-itself, chased-all}
+use Rattle.maps.proofs.Accesses.{never, in-memory, or-true, or-left, or-right, and-left, and-right, both-open, number-of, closed-by, reached-by, absent-by, whole, beyond, fifteen-register, fifteen-page, held-same, held-word, held-ends, held-number, held-range, set-cases, set-either, chased-ends, chased-on, chased-itself, chased-all}
 use Rattle.maps.specs.declared.pages.Map.{Map}
 use Rattle.maps.specs.declared.pages.Purpose.{Purpose}
 use Rattle.maps.specs.declared.pages.Place.{Place}

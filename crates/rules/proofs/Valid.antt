@@ -16,12 +16,9 @@ use Rattle.word.specs.Sums.{sum, incremented, decremented, address}
 use Rattle.word.specs.Products.{divided}
 use Rattle.word.specs.declared.products.Quotient.{Quotient}
 use Rattle.word.specs.declared.long.LongShift.{LongShift}
-use Rattle.word.specs.declared.orders.Order.{Order}
 use Rattle.maps.specs.Pages.{protecting, isRegister}
 use Rattle.maps.proofs.Laws.{switched-off}
-use Rattle.maps.specs.declared.pages.Map.{Map}
 use Rattle.maps.specs.declared.pages.Map.the-variants.{Execute}
-use Rattle.maps.specs.declared.pages.Purpose.{Purpose}
 use Rattle.code.specs.Codes.{privileged}
 use Rattle.code.specs.Instructions.{reading}
 use Rattle.acts.specs.Record.{withA, withB, withP, withTrap, withLights, inRegister, withRegister, inIndex, withIndex, valid, interrupted, ahead}
@@ -30,9 +27,9 @@ use Rattle.acts.specs.Acts.{Act, fin, stop, violate, load, goOn}
 use Rattle.acts.specs.Acts.{Result, done, violated, refused, exec, answer}
 use Rattle.effects.specs.Ways.{flagged, quotient, taken, wayAct}
 use Rattle.effects.specs.Group.{shiftRotated, alterEnded, alterSkipped, longRotated, copiedToIndex, copiedFromIndex, exchanged, indexStepped, picked, panelAct, isHalt, ioAct}
-use Rattle.strings.specs.Strings.{wordAt, along, valueOf, purposeOf, saving, touches, opensAll, presentAll, moving, moved, orderOf, onOrder, loadElement, comparing}
-use Rattle.strings.specs.Strings.{byteLoaded, byteStored, noneToDo, counted, moveAct, compareAct, masked, maskAct}
-use Rattle.rules.specs.Rules.{reached, wordsOf, action, act, rule, holds, trapRule, stepAct}
+use Rattle.strings.specs.Strings.{wordAt, along, valueOf, orderOf, comparing}
+use Rattle.strings.specs.Strings.{byteLoaded, byteStored, moveAct, compareAct, masked, maskAct}
+use Rattle.rules.specs.Rules.{wordsOf, action, act, rule, holds, trapRule, stepAct}
 use Rattle.acts.specs.declared.record.Registers.{Registers}
 use Rattle.acts.specs.declared.replies.Refusal.{Refusal}
 use Rattle.code.specs.declared.codes.Register.{Register}
@@ -48,16 +45,15 @@ use Rattle.effects.specs.declared.ways.Taking.{Taking}
 use Rattle.effects.specs.declared.ways.Taking.the-variants.{And, Xor, Ior, Add, Compare, Load, Multiply, Divide, LoadIndex, AddIndex}
 use Rattle.effects.specs.declared.ways.Way.{Way}
 use Rattle.effects.specs.declared.ways.Way.the-variants.{Take, Put, LoadDouble, StoreDouble, StepAndSkip, Jump, JumpSaving}
-use Rattle.rules.specs.declared.actions.Operand.{Operand}
-use Rattle.rules.specs.declared.actions.Operand.the-variants.{Made, Next}
 use Rattle.rules.specs.declared.actions.Action.{Action}
 use Rattle.rules.specs.declared.actions.Action.the-variants.{At, CopyToIndex, CopyFromIndex, Exchange, CountUp, CountDown, LoadByte, StoreByte, Move, Mask}
 use Rattle.strings.specs.declared.strings.Element.{Element}
-use Rattle.strings.specs.declared.strings.Element.the-variants.{Word, Byte}
+use Rattle.strings.specs.declared.strings.Element.the-variants.{Byte}
 use Rattle.code.specs.declared.codes.Bits.{Bits}
 use Rattle.code.specs.declared.codes.Bits.the-variants.{Sbs, Cbs, Tbs}
 use Rattle.code.proofs.Truth.{never}
 use Rattle.acts.proofs.Keeping.{Keeps, Carries, exec-holds}
+use Rattle.rules.proofs.Parts.{either, ordered, string-moves, loads, counts, reaches}
 
 -- Valid records.
 
@@ -136,10 +132,6 @@ module _ (wmap : ℕ) where
   abbrev KeepsSound : Act → Type 0
   KeepsSound = Keeps Sound
 
-  either : (b : Bool) (x y : Act) → KeepsSound x → KeepsSound y → KeepsSound (cond b x y)
-  either true x y p q = p
-  either false x y p q = q
-
   go-on-sound : (a n : ℕ) → KeepsSound (goOn (address a n))
   go-on-sound a n s h = moved-sound s (address a n) (address-fits a n) h
 
@@ -206,77 +198,41 @@ module _ (wmap : ℕ) where
   panel-sound Sfs bit11 bit9 = λ s. ahead-sound (1 + weight (s .o)) s
   panel-sound Mia bit11 bit9 = tt
   panel-sound Lia bit11 bit9 =
-      either bit9 (stop Refusal.InputOutput) (fin (λ s. ahead 1 (withRegister (picked bit11) s (s .switches * 256)))) tt
+      either Sound Sound bit9 (stop Refusal.InputOutput) (fin (λ s. ahead 1 (withRegister (picked bit11) s (s .switches * 256)))) tt
       (λ s h. ahead-sound 1 (withRegister (picked bit11) s (s .switches * 256)) (register-sound (picked bit11) s (s .switches * 256) h))
   panel-sound Ota bit11 bit9 =
-      either bit9 (stop Refusal.InputOutput) (fin (λ s. ahead 1 (withLights s (inRegister (picked bit11) s % 256)))) tt (ahead-sound 1)
+      either Sound Sound bit9 (stop Refusal.InputOutput) (fin (λ s. ahead 1 (withLights s (inRegister (picked bit11) s % 256)))) tt (ahead-sound 1)
   panel-sound Control bit11 bit9 = tt
 
   io-sound : (io : IoOperation) (bit11 bit9 : Bool) (select : ℕ) (r : Registers) → KeepsSound (ioAct io bit11 bit9 select r)
   unfolding ioAct
   io-sound io bit11 bit9 select r =
-      either (protecting (r .wmap) && (isHalt io || not (eqb select 1))) violate _ tt
-      (either (eqb select 1) (panelAct io bit11 bit9) (stop Refusal.InputOutput) (panel-sound io bit11 bit9) tt)
+      either Sound Sound (protecting (r .wmap) && (isHalt io || not (eqb select 1))) violate _ tt
+      (either Sound Sound (eqb select 1) (panelAct io bit11 bit9) (stop Refusal.InputOutput) (panel-sound io bit11 bit9) tt)
 
   -- words and bytes, and strings of them
-
-  opens-sound : (u : Element) (map : Map) (purpose : Purpose) (at n : ℕ) (k : Act) → KeepsSound k → KeepsSound (opensAll u map purpose at n k)
-  unfolding opensAll
-  opens-sound u map purpose at zero k h = h
-  opens-sound u map purpose at (suc n) k h = opens-sound u map purpose (along u at 1) n k h
-
-  presents-sound : (u : Element) (map : Map) (at n : ℕ) (k : Act) → KeepsSound k → KeepsSound (presentAll u map at n k)
-  unfolding presentAll
-  presents-sound u map at zero k h = h
-  presents-sound u map at (suc n) k h = presents-sound u map (along u at 1) n k h
-
-  saving-sound : (u : Element) (map : Map) (at v : ℕ) (k : Act) → KeepsSound k → KeepsSound (saving u map at v k)
-  saving-sound Word map at v k h = h
-  saving-sound Byte map at v k h = λ w. h
-
-  moving-sound : (u : Element) (from to : Map) (s d n : ℕ) (k : Act) → KeepsSound k → KeepsSound (moving u from to s d n k)
-  unfolding moving
-  moving-sound u from to s d zero k h = h
-  moving-sound u from to s d (suc n) k h =
-      λ w. saving-sound u to d (valueOf u s w) (moving u from to (along u s 1) (along u d 1) n k)
-      (moving-sound u from to (along u s 1) (along u d 1) n k h)
-
-  moved-string-sound : (u : Element) (from to : Map) (s d n : ℕ) (k : Act) → KeepsSound k → KeepsSound (moved u from to s d n k)
-  moved-string-sound u from to s d n k h =
-      either (touches u from s n || touches u to d n) (stop Refusal.InRegisters) _ tt
-      (opens-sound u from Purpose.Read s n _ (opens-sound u to (purposeOf u) d n _
-      (presents-sound u from s n _ (presents-sound u to d n _ (moving-sound u from to s d n k h)))))
-
-  loaded-sound : (u : Element) (at : ℕ) (k : ℕ → Act) → ((w : ℕ) → KeepsSound (k w)) → KeepsSound (loadElement u at k)
-  loaded-sound u at k h = either (isRegister Execute (wordAt u at)) (stop Refusal.InRegisters) (load Execute (wordAt u at) k) tt h
-
-  ordered-sound : (o : Order) (x y z : Act) → KeepsSound x → KeepsSound y → KeepsSound z → KeepsSound (onOrder o x y z)
-  ordered-sound Order.Smaller x y z p q h = p
-  ordered-sound Order.Equal x y z p q h = q
-  ordered-sound Order.Greater x y z p q h = h
 
   comparing-sound : (u : Element) (end s d n : ℕ) → KeepsSound (comparing u end s d n)
   unfolding comparing
   comparing-sound u end s d zero = ahead-sound 3
   comparing-sound u end s d (suc n) =
-      loaded-sound u s _ (λ v. loaded-sound u d _ (λ w. ordered-sound (orderOf u (valueOf u s v) (valueOf u d w)) _ _ _
+      loads Sound Sound u s _ (λ v. loads Sound Sound u d _ (λ w. ordered Sound Sound (orderOf u (valueOf u s v) (valueOf u d w)) _ _ _
       (ahead-sound 4) (comparing-sound u end (along u s 1) (along u d 1) n) (ahead-sound 5)))
 
   byte-loaded-sound : (r : Registers) → KeepsSound (byteLoaded r)
-  byte-loaded-sound r = loaded-sound Byte (r .b) _ (λ w. ahead-sound 1)
+  byte-loaded-sound r = loads Sound Sound Byte (r .b) _ (λ w. ahead-sound 1)
 
   byte-stored-sound : (r : Registers) → KeepsSound (byteStored r)
   byte-stored-sound r =
-      either (isRegister Execute (wordAt Byte (r .b))) (stop Refusal.InRegisters) _ tt (λ w. ahead-sound 1)
-
-  counted-sound : (r : Registers) (k : ℕ → Act) → ((c : ℕ) → KeepsSound (k c)) → KeepsSound (counted r k)
-  counted-sound r k h = λ w at l c. either (noneToDo c) (goOn (address (r .p) 3)) (k c) (go-on-sound (r .p) 3) (h c)
+      either Sound Sound (isRegister Execute (wordAt Byte (r .b))) (stop Refusal.InRegisters) _ tt (λ w. ahead-sound 1)
 
   move-sound : (u : Element) (r : Registers) → KeepsSound (moveAct u r)
-  move-sound u r = counted-sound r _ (λ c. moved-string-sound u Execute Execute (r .a) (r .b) c _ (ahead-sound 3))
+  move-sound u r = counts Sound Sound r _ (go-on-sound (r .p) 3) (λ c. string-moves Sound Sound _ _ (ahead-sound 3))
 
   compare-sound : (u : Element) (r : Registers) → KeepsSound (compareAct u r)
-  compare-sound u r = counted-sound r _ (λ c. comparing-sound u (along u (r .b) c) (along u (r .a) 0) (along u (r .b) 0) c)
+  compare-sound u r =
+      counts Sound Sound r _ (go-on-sound (r .p) 3)
+      (λ c. comparing-sound u (along u (r .b) c) (along u (r .a) 0) (along u (r .b) 0) c)
 
   masked-sound : (x : Bits) (r : Registers) (mask w at : ℕ) → KeepsSound (masked x r mask w at)
   masked-sound Sbs r mask w at = go-on-sound (r .p) 3
@@ -288,12 +244,8 @@ module _ (wmap : ℕ) where
 
   -- the rules
 
-  reached-sound : (from : Operand) (r : Registers) (k : ℕ → Act) → ((m : ℕ) → m < 0o100000 → KeepsSound (k m)) → KeepsSound (reached from r k)
-  reached-sound (Made word) r k h = h
-  reached-sound Next r k h = λ w. h
-
   act-sound : (a : Action) (r : Registers) → KeepsSound (act a r)
-  act-sound (At way from) r = reached-sound from r _ (λ m l. way-sound way r m (wordsOf from) l)
+  act-sound (At way from) r = reaches Sound Sound from r _ (λ m l. way-sound way r m (wordsOf from) l)
   act-sound (Action.ShiftRotate i) r = shift-sound i
   act-sound (Action.AlterSkip i) r = alter-sound i
   act-sound (Action.InputOutput io bit11 bit9 select) r = io-sound io bit11 bit9 select r
@@ -308,17 +260,17 @@ module _ (wmap : ℕ) where
   act-sound (Move u) r = move-sound u r
   act-sound (Action.Compare u) r = compare-sound u r
   act-sound (Mask x) r = mask-sound x r
-  act-sound (Action.NotBuilt w) r = either (protecting (r .wmap) && privileged w) violate (stop Refusal.NotBuilt) tt tt
+  act-sound (Action.NotBuilt w) r = either Sound Sound (protecting (r .wmap) && privileged w) violate (stop Refusal.NotBuilt) tt tt
 
   trap-sound : (w : ℕ) (r : Registers) → KeepsSound (trapRule w r)
   unfolding trapRule
   trap-sound w r =
-      either (holds Operation.Jmp w) _ _ (λ m l s. trapped-sound s m l)
-      (either (holds Operation.Jsb w) _ (stop Refusal.TrapCell) (λ m l s. trapped-sound s (address m 1) (address-fits m 1)) tt)
+      either Sound Sound (holds Operation.Jmp w) _ _ (λ m l s. trapped-sound s m l)
+      (either Sound Sound (holds Operation.Jsb w) _ (stop Refusal.TrapCell) (λ m l s. trapped-sound s (address m 1) (address-fits m 1)) tt)
 
   pub step-act-sound : (r : Registers) → KeepsSound (stepAct r)
   step-act-sound r =
-      either (eqb (r .trap) 0) (load Execute (r .p) (λ w. rule (reading w) r)) (load Execute (r .trap) (λ w. trapRule w r))
+      either Sound Sound (eqb (r .trap) 0) (load Execute (r .p) (λ w. rule (reading w) r)) (load Execute (r .trap) (λ w. trapRule w r))
       (λ w. act-sound (action (reading w) (r .p)) r) (λ w. trap-sound w r)
 
 -- A step.

@@ -2,11 +2,12 @@
 --     memoryWay, memoryWord                memory reference
 --     dataMap, arithmeticWay .. extendedAction    the extended codes
 --     action, act, rule                    what an instruction asks for, its accesses, and both
+--     actionWords, jumping                 how many words an action's instruction has, and whether P leaves their order
 --     holds, trapRule                      the word of a trap cell
 --     stepAct                              one step: fetch, then what was read
 -- Assumes nothing.
 use Prim.Native.Nat.{ℕ, _+_, _*_, _/_, _%_}
-use mathlib.Core.Bool.{Bool, cond, _&&_}
+use mathlib.Core.Bool.{Bool, true, false, cond, _&&_}
 use lib.Dec.{eqb}
 use Rattle.word.specs.Words.{bit, weight}
 use Rattle.word.specs.Sums.{incremented, decremented, address}
@@ -166,6 +167,53 @@ act (Compare u) r = compareAct u r
 act (Mask x) r = maskAct x r
 -- 01, Violation: "codes 105700 to 105711 are violations. With protection off .. 105700 to 105711 reply 6."
 act (Action.NotBuilt w) r = cond (protecting (r .wmap) && privileged w) violate (stop Refusal.NotBuilt)
+
+-- how many words the instruction of each has; that the table of the codes has the same is in proofs/Lengths.antt
+abbrev pub actionWords : Action → ℕ
+actionWords (At way from) = wordsOf from
+actionWords (Action.ShiftRotate i) = 1
+actionWords (Action.AlterSkip i) = 1
+actionWords (Action.InputOutput io bit11 bit9 select) = 1
+actionWords (Action.LongShift kind n) = 1
+actionWords (CopyToIndex g i) = 1
+actionWords (CopyFromIndex g i) = 1
+actionWords (Exchange g i) = 1
+actionWords (CountUp i) = 1
+actionWords (CountDown i) = 1
+actionWords LoadByte = 1
+actionWords StoreByte = 1
+actionWords (Move u) = 3
+actionWords (Compare u) = 3
+actionWords (Mask x) = 3
+actionWords (Action.NotBuilt w) = 1
+
+-- JMP and JSB alone leave P elsewhere than past these words, or past one or two words more: proofs/Lengths.antt
+abbrev pub jumps : Way → Bool
+jumps (Take t map x) = false
+jumps (Put s map x) = false
+jumps LoadDouble = false
+jumps StoreDouble = false
+jumps StepAndSkip = false
+jumps Jump = true
+jumps JumpSaving = true
+
+abbrev pub jumping : Action → Bool
+jumping (At way from) = jumps way
+jumping (Action.ShiftRotate i) = false
+jumping (Action.AlterSkip i) = false
+jumping (Action.InputOutput io bit11 bit9 select) = false
+jumping (Action.LongShift kind n) = false
+jumping (CopyToIndex g i) = false
+jumping (CopyFromIndex g i) = false
+jumping (Exchange g i) = false
+jumping (CountUp i) = false
+jumping (CountDown i) = false
+jumping LoadByte = false
+jumping StoreByte = false
+jumping (Move u) = false
+jumping (Compare u) = false
+jumping (Mask x) = false
+jumping (Action.NotBuilt w) = false
 
 abbrev pub rule : Instruction → Registers → Act
 rule i r = act (action i (r .p)) r

@@ -1,8 +1,8 @@
--- A move after its tests: a run of elements copied by their places in memory.
---     Copied, copied-inside, copied-fits, copied-on    how far the copy of a run has come; its next element, and one element on
+-- A move after its tests: a stretch of elements copied by their places in memory.
+--     Copied, copied-inside, copied-fits, copied-on    how far the copy of a stretch has come; its next element, and one element on
 --     Filled, filled-first, filled-on      how far a copy of words to the places one on has come; where it begins, and one word on
 --     Placed, told, placed-on              the place of an element, and of the next on its page
---     Moves, moves-inside, moves-run       how far a move has come; a run of it in memory; a run on
+--     Moves, moves-inside, moves-stretch       how far a move has come; a stretch of it in memory; a stretch on
 -- Assumes nothing.
 use Prim.Native.Nat.{ℕ, zero, suc, _<_, _≤_, _+_, _-_, _*_, _/_, _%_}
 use native.Mathlib.Omega.{arith}
@@ -17,12 +17,12 @@ use Rattle.maps.specs.declared.pages.Purpose.{Purpose}
 use Rattle.maps.specs.declared.pages.Place.{Place}
 use Rattle.acts.specs.Acts.{Act, exec}
 use Rattle.strings.specs.Strings.{wordAt, along, purposeOf, moving}
-use Rattle.strings.specs.Copies.{perPage, placeIn, indexOf, placesIn, Run, carried, copies}
+use Rattle.strings.specs.Copies.{perPage, placeIn, indexOf, placesIn, Stretch, carried, copies}
 use Rattle.acts.specs.declared.record.Registers.{Registers}
 use Rattle.strings.specs.declared.strings.Element.{Element}
 use Rattle.strings.specs.declared.strings.Element.the-variants.{Word, Byte}
 use Rattle.strings.proofs.Ranges.{never, InMemory, Reaches, reaches-on, lead, leads, move-one}
-use Rattle.strings.proofs.Runs.{along-on, page-on}
+use Rattle.strings.proofs.Stretches.{along-on, page-on}
 
 carried-length : (u : Element) (i j : ℕ) (m : List ℕ) → length (carried u i j m) ≡ length m
 carried-length Word i j m = length-set m j _
@@ -159,22 +159,22 @@ module _ (pages : List ℕ) (r : Registers) where
           onward = λ k. h .onward k ∙ (rw (← e, ← f, o) at (move-one pages r u from to s′ d′ (n′ - 1) k m′ (x .0) (y .0)));
         }
 
-    run : (s′ d′ t n′ : ℕ) (m′ : List ℕ) {i j : ℕ} → suc t ≤ n′ → s′ % perPage u + suc t ≤ perPage u → d′ % perPage u + suc t ≤ perPage u
+    stretch : (s′ d′ t n′ : ℕ) (m′ : List ℕ) {i j : ℕ} → suc t ≤ n′ → s′ % perPage u + suc t ≤ perPage u → d′ % perPage u + suc t ≤ perPage u
         → Moves s′ d′ n′ m′ → Placed u from s′ i → Placed u to d′ j
         → Moves (along u s′ (suc t)) (along u d′ (suc t)) (n′ - suc t) (copies u i j (suc t) m′)
     unfolding copies
-    run s′ d′ zero n′ m′ l p q h e f = moves-on s′ d′ n′ m′ (omega arith) h e f
-    run s′ d′ (suc t) n′ m′ {i} {j} l p q h e f =
+    stretch s′ d′ zero n′ m′ l p q h e f = moves-on s′ d′ n′ m′ (omega arith) h e f
+    stretch s′ d′ (suc t) n′ m′ {i} {j} l p q h e f =
         let g = page-on u s′ 1 (omega arith) in
         let g′ = page-on u d′ 1 (omega arith) in
         let o : n′ - 1 - suc t ≡ n′ - suc (suc t) = omega arith in
         rw (← along-on u s′ (suc t), ← along-on u d′ (suc t), ← o)
-        (run (along u s′ 1) (along u d′ 1) t (n′ - 1) (carried u i j m′) (omega arith) (omega (arith, g .next)) (omega (arith, g′ .next))
+        (stretch (along u s′ 1) (along u d′ 1) t (n′ - 1) (carried u i j m′) (omega arith) (omega (arith, g .next)) (omega (arith, g′ .next))
         (moves-on s′ d′ n′ m′ (omega arith) h e f) (placed-on u from s′ (omega arith) e) (placed-on u to d′ (omega arith) f))
 
-  -- a run on one page of the second range, of a run on one page of the first
+  -- a stretch on one page of the second range, of a stretch on one page of the first
   pub moves-inside : (u : Element) (from to : Map) (s d n : ℕ) (m : List ℕ) (s′ d′ t o n′ : ℕ) (m′ : List ℕ) {i j : ℕ} → 0 < n′
-      → Run u s′ n′ o → Run u d′ o t → Moves u from to s d n m s′ d′ n′ m′
+      → Stretch u s′ n′ o → Stretch u d′ o t → Moves u from to s d n m s′ d′ n′ m′
       → Told u from Purpose.Read s′ m′ i → Told u to (purposeOf u) d′ m′ j
       → (i + t ≤ placesIn u m′) × (j + t ≤ placesIn u m′)
   moves-inside u from to s d n m s′ d′ zero o n′ m′ l a b h e f = absurd (omega (arith, b .some (a .some l)))
@@ -183,13 +183,13 @@ module _ (pages : List ℕ) (r : Registers) where
     inside u to (purposeOf u) d′ t n′ m′ (omega (arith, a .within, b .within)) (b .page) (h .target) (told u to (purposeOf u) d′ n′ m′ l (h .target) f),
   )
 
-  pub moves-run : (u : Element) (from to : Map) (s d n : ℕ) (m : List ℕ) (s′ d′ t o n′ : ℕ) (m′ : List ℕ) {i j s″ d″ : ℕ} {m″ : List ℕ} → 0 < n′
-      → Run u s′ n′ o → Run u d′ o t → Moves u from to s d n m s′ d′ n′ m′
+  pub moves-stretch : (u : Element) (from to : Map) (s d n : ℕ) (m : List ℕ) (s′ d′ t o n′ : ℕ) (m′ : List ℕ) {i j s″ d″ : ℕ} {m″ : List ℕ} → 0 < n′
+      → Stretch u s′ n′ o → Stretch u d′ o t → Moves u from to s d n m s′ d′ n′ m′
       → Told u from Purpose.Read s′ m′ i → Told u to (purposeOf u) d′ m′ j
       → m″ ≡ copies u i j t m′ → s″ ≡ along u s′ t → d″ ≡ along u d′ t
       → Moves u from to s d n m s″ d″ (n′ - t) m″
-  moves-run u from to s d n m s′ d′ zero o n′ m′ l a b h e f x y z = absurd (omega (arith, b .some (a .some l)))
-  moves-run u from to s d n m s′ d′ (suc t) o n′ m′ l a b h e f x y z =
+  moves-stretch u from to s d n m s′ d′ zero o n′ m′ l a b h e f x y z = absurd (omega (arith, b .some (a .some l)))
+  moves-stretch u from to s d n m s′ d′ (suc t) o n′ m′ l a b h e f x y z =
       rw (x, y, z)
-      (run u from to s d n m s′ d′ t n′ m′ (omega (arith, a .within, b .within)) (omega (arith, a .page, b .within)) (b .page) h
+      (stretch u from to s d n m s′ d′ t n′ m′ (omega (arith, a .within, b .within)) (omega (arith, a .page, b .within)) (b .page) h
       (told u from Purpose.Read s′ n′ m′ l (h .source) e) (told u to (purposeOf u) d′ n′ m′ l (h .target) f))

@@ -2,7 +2,7 @@
 --     Bytes           how a byte store ends, by its place
 --     Comparisons     one turn of a comparison
 --     Ranges          the tests and stores of a move, element by element
---     Runs            elements that lie on one page
+--     Stretches       elements that lie on one page
 --     Copying         a move after its tests
 --     Alike           bytes copied by whole words
 --     Touching        whether a range touches A or B, from its ends
@@ -12,7 +12,7 @@
 pub mod Bytes
 pub mod Comparisons
 pub mod Ranges
-pub mod Runs
+pub mod Stretches
 pub mod Copying
 pub mod Alike
 pub mod Touching

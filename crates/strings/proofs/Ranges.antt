@@ -20,12 +20,13 @@ use Rattle.maps.specs.declared.pages.Place.{Place}
 use Rattle.maps.specs.declared.troubles.Trouble.{Trouble}
 use Rattle.maps.specs.declared.troubles.Tested.{Tested}
 use Rattle.acts.specs.Acts.{Act, Result, fin, stop, done, violated, refused, onOpen, onTested, exec, Ends}
-use Rattle.strings.specs.Strings.{wordAt, along, purposeOf, touches, opensAll, presentAll, moving, tested}
+use Rattle.strings.specs.Strings.{wordAt, along, purposeOf, touches, opensAll, presentAll, moving, touched, allOpen, allPresent, tested}
 use Rattle.strings.specs.Copies.{placeIn, carried}
 use Rattle.acts.specs.declared.record.Registers.{Registers}
 use Rattle.acts.specs.declared.replies.Refusal.{Refusal}
 use Rattle.acts.specs.declared.replies.Reply.{Reply}
 use Rattle.acts.specs.declared.replies.Stepped.{Stepped}
+use Rattle.strings.specs.declared.moves.Move.{Move}
 use Rattle.strings.specs.declared.strings.Element.{Element}
 use Rattle.strings.specs.declared.strings.Element.the-variants.{Word, Byte}
 
@@ -140,34 +141,37 @@ module _ (pages : List ℕ) where
         (record { memory = x .0; allowed = y .0; there = z .0 }, reaches u map purpose (along u at 1) n j k m (x .1) (y .1) (z .1))
 
     -- each element of both ranges, where the tests of a move succeed
-    pub ready : (u : Element) (from to : Map) (s d n : ℕ) (m : List ℕ) {t : Registers} {l : List ℕ}
-        → exec pages (tested u from to s d n (fin (λ q. q))) r m ≡ done t l
-        → Reaches pages (r .wmap) (length m) u from Purpose.Read s n × Reaches pages (r .wmap) (length m) u to (purposeOf u) d n
+    pub ready : (j : Move) (m : List ℕ) {t : Registers} {l : List ℕ}
+        → exec pages (tested j (fin (λ q. q))) r m ≡ done t l
+        → Reaches pages (r .wmap) (length m) (j .element) (j .from) Purpose.Read (j .source) (j .count)
+        × Reaches pages (r .wmap) (length m) (j .element) (j .to) (purposeOf (j .element)) (j .target) (j .count)
     unfolding exec
-    ready u from to s d n m {t} {l} e = go (touches u from s n) (touches u to d n) refl refl e
+    ready j m {t} {l} e =
+        go (touches (j .element) (j .from) (j .source) (j .count)) (touches (j .element) (j .to) (j .target) (j .count)) refl refl e
       where
-        go : (x y : Bool) → touches u from s n ≡ x → touches u to d n ≡ y
-            → exec pages (cond (x || y) (stop Refusal.InRegisters)
-            (opensAll u from Purpose.Read s n (opensAll u to (purposeOf u) d n
-            (presentAll u from s n (presentAll u to d n (fin (λ q. q))))))) r m ≡ done t l
-            → Reaches pages (r .wmap) (length m) u from Purpose.Read s n × Reaches pages (r .wmap) (length m) u to (purposeOf u) d n
+        go : (x y : Bool) → touches (j .element) (j .from) (j .source) (j .count) ≡ x → touches (j .element) (j .to) (j .target) (j .count) ≡ y
+            → exec pages (cond (x || y) (stop Refusal.InRegisters) (allOpen j (allPresent j (fin (λ q. q))))) r m ≡ done t l
+            → Reaches pages (r .wmap) (length m) (j .element) (j .from) Purpose.Read (j .source) (j .count)
+            × Reaches pages (r .wmap) (length m) (j .element) (j .to) (purposeOf (j .element)) (j .target) (j .count)
         go true y a b f = never (cc)
         go false true a b f = never (cc)
         go false false a b f =
-            let g = opens-go u from Purpose.Read s n _ m f in
-            let h = opens-go u to (purposeOf u) d n _ m g in
-            let i = presents-go u from s n _ m h in
-            (reaches u from Purpose.Read s n _ _ m a f h, reaches u to (purposeOf u) d n _ _ m b g i)
+            let g = opens-go (j .element) (j .from) Purpose.Read (j .source) (j .count) _ m f in
+            let h = opens-go (j .element) (j .to) (purposeOf (j .element)) (j .target) (j .count) _ m g in
+            let i = presents-go (j .element) (j .from) (j .source) (j .count) _ m h in (
+              reaches (j .element) (j .from) Purpose.Read (j .source) (j .count) _ _ m a f h,
+              reaches (j .element) (j .to) (purposeOf (j .element)) (j .target) (j .count) _ _ m b g i,
+            )
 
     -- the tests of a move told to succeed
-    pub passes : (u : Element) (from to : Map) (s d n : ℕ) (m : List ℕ) (k : Act) {x y o : Bool} {p : Tested}
-        → x ≡ touches u from s n → y ≡ touches u to d n → (x || y) ≡ false
-        → ((m : List ℕ) (k : Act) → exec pages (opensAll u from Purpose.Read s n (opensAll u to (purposeOf u) d n k)) r m ≡ onOpen o (exec pages k r m))
+    pub passes : (j : Move) (m : List ℕ) (k : Act) {x o : Bool} {p : Tested}
+        → x ≡ touched j → x ≡ false
+        → ((m : List ℕ) (k : Act) → exec pages (allOpen j k) r m ≡ onOpen o (exec pages k r m))
         → o ≡ true
-        → ((k : Act) → exec pages (presentAll u from s n (presentAll u to d n k)) r m ≡ onTested p (exec pages k r m))
+        → ((k : Act) → exec pages (allPresent j k) r m ≡ onTested p (exec pages k r m))
         → p ≡ Tested.Sound
-        → exec pages (tested u from to s d n k) r m ≡ exec pages k r m
-    passes u from to s d n m k e f g h i j l = rw (← e, ← f, g) (h m _ ∙ (rw i (j k ∙ (rw l))))
+        → exec pages (tested j k) r m ≡ exec pages k r m
+    passes j m k e g h i q l = rw (← e, g) (h m _ ∙ (rw i (q k ∙ (rw l))))
 
     -- one element moved, whose word and whose target an access reaches
     pub move-one : (u : Element) (from to : Map) (s d n : ℕ) (k : Act) (m : List ℕ)

@@ -25,8 +25,6 @@ use Rattle.strings.proofs.strings.compare.Kinds as compare
 use Rattle.strings.proofs.strings.compare.Reads as compare-reads
 use Rattle.strings.proofs.strings.mask_bits.Kinds as mask-bits
 use Rattle.strings.proofs.strings.mask_bits.Reads as mask-bits-reads
-use Rattle.strings.proofs.moves.move_elements.Kinds as move-elements
-use Rattle.strings.proofs.moves.move_elements.Reads as move-elements-reads
 use Rattle.strings.proofs.moves.move_string.Kinds as move-string
 use Rattle.strings.proofs.moves.move_string.Reads as move-string-reads
 
@@ -59,9 +57,6 @@ compare-tight κs a x y s t p q = ends-tight p q .0
 
 pub mask-bits-tight : OneMemory 2 mask-bits.ps mask-bits.r mask-bits-reads.Post (λ κs s. now (s .1 .1 .1 .0))
 mask-bits-tight κs a x y s t p q = ends-tight p q
-
-pub move-elements-tight : OneMemory 2 move-elements.ps move-elements.r move-elements-reads.Post (λ κs s. now (s .1 .1 .1 .1 .1 .1 .1 .1 .0))
-move-elements-tight κs a x y s t p q = ends-tight p q
 
 pub move-string-tight : OneMemory 2 move-string.ps move-string.r move-string-reads.Post (λ κs s. now (s .1 .1 .1 .0))
 move-string-tight κs a x y s t p q = ends-tight p q

@@ -1,6 +1,6 @@
 -- Elements of memory copied to others, by their places in memory: what the functions of `src/moves.rt` promise each other.
 -- Words are counted by their index; bytes two to a word, the high one first. No rule cites this.
---     perPage, Run                            the elements of a page; a run of elements on one page
+--     perPage, Stretch                            the elements of a page; a stretch of elements on one page
 --     placeIn, indexOf, placesIn              places: of an address, a word, a memory
 --     carried, copies                         one element copied; several, one after another
 -- Assumes nothing.
@@ -17,7 +17,7 @@ perPage Word = 1024
 perPage Byte = 2048
 
 -- t of the elements left from an address on, all on its page
-pub record Run (u : Element) (at left t : ℕ) : Type 0 where
+pub record Stretch (u : Element) (at left t : ℕ) : Type 0 where
   pub within : t ≤ left
   pub page : at % perPage u + t ≤ perPage u
   pub some : 0 < left → 0 < t

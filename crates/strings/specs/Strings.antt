@@ -2,7 +2,8 @@
 -- two maps and for words and bytes alike.
 --     wordAt, along, valueOf, purposeOf      an element of a string: its word, the next, its value, what storing it needs
 --     touches, opensAll, presentAll, moving  a range: reply 5, protection, presence; the move itself
---     tested, moved, comparing               the tests before a move; the whole of a move, and of a comparison
+--     touched .. tested                      the tests before a move
+--     carrying, moved, pastRanges, comparing    the whole of a move, and of a comparison
 --     Compares, concluded                    what functions promise of one pair, and of what a comparison found
 --     byteLoaded, byteStored, moveAct, compareAct, maskAct    the instructions
 -- Assumes nothing.
@@ -30,6 +31,7 @@ use Rattle.acts.specs.declared.replies.Refusal.{Refusal}
 use Rattle.acts.specs.declared.replies.Stepped.{Stepped}
 use Rattle.strings.specs.declared.strings.Pair.{Pair}
 use Rattle.strings.specs.declared.strings.Found.{Found}
+use Rattle.strings.specs.declared.moves.Move.{Move}
 use Rattle.strings.specs.declared.strings.Element.{Element}
 use Rattle.strings.specs.declared.strings.Element.the-variants.{Word, Byte}
 
@@ -77,14 +79,30 @@ moving u from to s d (suc n) k =
     load from (wordAt u s) (λ w. saving u to d (valueOf u s w) (moving u from to (along u s 1) (along u d 1) n k))
 
 -- 01: "Before the first store the whole ranges are tested: reply 5, then 1, then 4."
-abbrev pub tested : Element → Map → Map → ℕ → ℕ → ℕ → Act → Act
-tested u from to s d n k =
-    cond (touches u from s n || touches u to d n) (stop Refusal.InRegisters)
-    (opensAll u from Purpose.Read s n (opensAll u to (purposeOf u) d n
-    (presentAll u from s n (presentAll u to d n k))))
+abbrev pub touched : Move → Bool
+touched j = touches (j .element) (j .from) (j .source) (j .count) || touches (j .element) (j .to) (j .target) (j .count)
 
-abbrev pub moved : Element → Map → Map → ℕ → ℕ → ℕ → Act → Act
-moved u from to s d n k = tested u from to s d n (moving u from to s d n k)
+abbrev pub allOpen : Move → Act → Act
+allOpen j k =
+    opensAll (j .element) (j .from) Purpose.Read (j .source) (j .count)
+    (opensAll (j .element) (j .to) (purposeOf (j .element)) (j .target) (j .count) k)
+
+abbrev pub allPresent : Move → Act → Act
+allPresent j k = presentAll (j .element) (j .from) (j .source) (j .count) (presentAll (j .element) (j .to) (j .target) (j .count) k)
+
+abbrev pub tested : Move → Act → Act
+tested j k = cond (touched j) (stop Refusal.InRegisters) (allOpen j (allPresent j k))
+
+abbrev pub carrying : Move → Act → Act
+carrying j k = moving (j .element) (j .from) (j .to) (j .source) (j .target) (j .count) k
+
+abbrev pub moved : Move → Act → Act
+moved j k = tested j (carrying j k)
+
+-- "A and B end past their ranges."
+abbrev pub pastRanges : Move → Registers → Registers
+pastRanges j r =
+    ahead 3 (withB (withA r (along (j .element) (j .source) (j .count))) (along (j .element) (j .target) (j .count)))
 
 abbrev pub orderOf : Element → ℕ → ℕ → Order
 orderOf Word v w = orderOfWords v w
@@ -146,8 +164,8 @@ counted r k = count r (λ c. cond (noneToDo c) (goOn (address (r .p) 3)) (k c))
 
 abbrev pub moveAct : Element → Registers → Act
 moveAct u r =
-    counted r (λ c. moved u Execute Execute (r .a) (r .b) c
-    (fin (λ t. ahead 3 (withB (withA t (along u (r .a) c)) (along u (r .b) c)))))
+    counted r (λ c. let j : Move = record { element = u; from = Execute; to = Execute; source = r .a; target = r .b; count = c } in
+    moved j (fin (pastRanges j)))
 
 abbrev pub compareAct : Element → Registers → Act
 compareAct u r = counted r (λ c. comparing u (along u (r .b) c) (along u (r .a) 0) (along u (r .b) 0) c)

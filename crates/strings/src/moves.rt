@@ -32,10 +32,19 @@ ghost use lib.Dec.{eqb, ltb};
 ghost use lib.ListN.{length};
 ghost use Rattle.maps.specs.Pages.{place};
 ghost use Rattle.maps.specs.declared.pages.Place.{Place as Where};
-ghost use Rattle.acts.specs.Record.{withA, withB, ahead};
 ghost use Rattle.acts.specs.Acts.{Act, Performs, exec, fin, done, onOpen, onTested};
-ghost use Rattle.strings.specs.Copies.{Run, placeIn, indexOf, placesIn, carried, copies};
-ghost use Rattle.strings.specs.Strings.{wordAt, along, purposeOf, touches, opensAll, presentAll, moving, tested, moved, moveAct};
+ghost use Rattle.strings.specs.Copies.{Stretch, placeIn, indexOf, placesIn, carried, copies};
+ghost use Rattle.strings.specs.Strings.{wordAt, purposeOf, touches, opensAll, presentAll, touched, allOpen, allPresent, tested, carrying, moved, pastRanges, moveAct};
+
+// What is moved, from where to where, each through a map, and how many of it.
+pub struct Move {
+    pub element: Element,
+    pub from: Map,
+    pub to: Map,
+    pub source: u16,
+    pub target: u16,
+    pub count: u16,
+}
 
 fn purpose_of(u: Element) -> Purpose
     ensures { λ p. ⌜ p ≡ purposeOf u ⌝ }
@@ -80,8 +89,8 @@ fn at_most(room: u16, left: u16) -> u16
 }
 
 // How many of the elements left lie on the page of the first, from there on.
-fn run_of(u: Element, at: u16, left: u16) -> u16
-    ensures { λ t. ⌜ Run u at left t ⌝ }
+fn stretch_of(u: Element, at: u16, left: u16) -> u16
+    ensures { λ t. ⌜ Stretch u at left t ⌝ }
 {
     match u {
         Element::Word => at_most(1024 - at % 1024, left),
@@ -106,9 +115,9 @@ fn range_open(
     let mut left = n;
     while left > 0 {
         if is_open(pages, r.wmap, map, purpose, word_at(u, next)) {
-            let run = run_of(u, next, left);
-            next = go_along(u, next, run);
-            left -= run;
+            let stretch = stretch_of(u, next, left);
+            next = go_along(u, next, stretch);
+            left -= stretch;
         } else {
             return false;
         }
@@ -133,12 +142,12 @@ fn range_present(
     let mut next = at;
     let mut left = n;
     while left > 0 {
-        let run = run_of(u, next, left);
-        let last = word_at(u, go_along(u, next, run - 1));
+        let stretch = stretch_of(u, next, left);
+        let last = word_at(u, go_along(u, next, stretch - 1));
         match presence_of(pages, r.wmap, map, last, memory.len()) {
             Tested::Sound => {
-                next = go_along(u, next, run);
-                left -= run;
+                next = go_along(u, next, stretch);
+                left -= stretch;
             }
             Tested::Ends(t) => return Tested::Ends(t),
         }
@@ -147,43 +156,30 @@ fn range_present(
 }
 
 // Whether both ranges of a move are open, each to its purpose.
-fn ranges_open(
-    u: Element,
-    from: Map,
-    to: Map,
-    s: u16,
-    d: u16,
-    n: u16,
-    r: Registers,
-    pages: &[u16],
-) -> bool
-    requires { ⌜ (touches u from s n ≡ false) × (touches u to d n ≡ false) ⌝ }
-    ensures { λ b. ⌜ ((m : List ℕ) (k : Act) → exec (now (pages .entry)) (opensAll u from Purpose.Read s n (opensAll u to (purposeOf u) d n k)) r m ≡ onOpen b (exec (now (pages .entry)) k r m)) ⌝ }
+fn ranges_open(job: Move, r: Registers, pages: &[u16]) -> bool
+    requires { ⌜ touched job ≡ false ⌝ }
+    ensures { λ b. ⌜ ((m : List ℕ) (k : Act) → exec (now (pages .entry)) (allOpen job k) r m ≡ onOpen b (exec (now (pages .entry)) k r m)) ⌝ }
 {
-    if range_open(u, from, Purpose::Read, s, n, r, pages) {
-        range_open(u, to, purpose_of(u), d, n, r, pages)
+    let u = job.element;
+    let from = job.from;
+    let to = job.to;
+    if range_open(u, from, Purpose::Read, job.source, job.count, r, pages) {
+        range_open(u, to, purpose_of(u), job.target, job.count, r, pages)
     } else {
         false
     }
 }
 
 // Whether both ranges are present, or else the first absent page.
-fn ranges_present(
-    u: Element,
-    from: Map,
-    to: Map,
-    s: u16,
-    d: u16,
-    n: u16,
-    r: Registers,
-    pages: &[u16],
-    memory: &[u16],
-) -> Tested
-    requires { ⌜ (touches u from s n ≡ false) × (touches u to d n ≡ false) ⌝ }
-    ensures { λ p. ⌜ ((k : Act) → exec (now (pages .entry)) (presentAll u from s n (presentAll u to d n k)) r (now (memory .entry)) ≡ onTested p (exec (now (pages .entry)) k r (now (memory .entry)))) ⌝ }
+fn ranges_present(job: Move, r: Registers, pages: &[u16], memory: &[u16]) -> Tested
+    requires { ⌜ touched job ≡ false ⌝ }
+    ensures { λ p. ⌜ ((k : Act) → exec (now (pages .entry)) (allPresent job k) r (now (memory .entry)) ≡ onTested p (exec (now (pages .entry)) k r (now (memory .entry)))) ⌝ }
 {
-    match range_present(u, from, s, n, r, pages, memory) {
-        Tested::Sound => range_present(u, to, d, n, r, pages, memory),
+    let u = job.element;
+    let from = job.from;
+    let to = job.to;
+    match range_present(u, from, job.source, job.count, r, pages, memory) {
+        Tested::Sound => range_present(u, to, job.target, job.count, r, pages, memory),
         Tested::Ends(t) => Tested::Ends(t),
     }
 }
@@ -299,8 +295,8 @@ fn lie_alike(u: Element, source: usize, target: usize) -> bool
     }
 }
 
-// A run of elements, each seeing the earlier stores.
-fn copy_run(u: Element, source: usize, target: usize, n: u16, memory: &mut [u16])
+// A stretch of elements, each seeing the earlier stores.
+fn copy_stretch(u: Element, source: usize, target: usize, n: u16, memory: &mut [u16])
     requires { ⌜ (source + n ≤ placesIn u (now memory)) × (target + n ≤ placesIn u (now memory)) ⌝ }
     ensures { λ _. ⌜ now (memory .exit) ≡ copies u source target n (now (memory .entry)) ⌝ }
 {
@@ -314,83 +310,72 @@ fn copy_run(u: Element, source: usize, target: usize, n: u16, memory: &mut [u16]
     }
 }
 
-// After the tests: one element after another, upward, a run of them on one page of each range at a
+// After the tests: one element after another, upward, a stretch of them on one page of each range at a
 // time.
-fn copy_elements(
-    u: Element,
-    from: Map,
-    to: Map,
-    s: u16,
-    d: u16,
-    n: u16,
-    r: Registers,
-    pages: &[u16],
-    memory: &mut [u16],
-)
-    requires { ⌜ exec (now pages) (tested u from to s d n (fin (λ t. t))) r (now memory) ≡ done r (now memory) ⌝ }
-    ensures { λ _. ⌜ ((k : Act) → exec (now (pages .entry)) (moving u from to s d n k) r (now (memory .entry)) ≡ exec (now (pages .entry)) k r (now (memory .exit))) ⌝ }
+fn copy_elements(job: Move, r: Registers, pages: &[u16], memory: &mut [u16])
+    requires { ⌜ exec (now pages) (tested job (fin (λ t. t))) r (now memory) ≡ done r (now memory) ⌝ }
+    ensures { λ _. ⌜ ((k : Act) → exec (now (pages .entry)) (carrying job k) r (now (memory .entry)) ≡ exec (now (pages .entry)) k r (now (memory .exit))) ⌝ }
 {
-    let mut source = s;
-    let mut target = d;
-    let mut left = n;
+    let u = job.element;
+    let from = job.from;
+    let to = job.to;
+    let mut source = job.source;
+    let mut target = job.target;
+    let mut left = job.count;
     while left > 0 {
         let i = element_place(u, from, Purpose::Read, source, r, pages, memory);
         let j = element_place(u, to, purpose_of(u), target, r, pages, memory);
-        let run = run_of(u, target, run_of(u, source, left));
-        copy_run(u, i, j, run, memory);
-        source = go_along(u, source, run);
-        target = go_along(u, target, run);
-        left -= run;
+        let stretch = stretch_of(u, target, stretch_of(u, source, left));
+        copy_stretch(u, i, j, stretch, memory);
+        source = go_along(u, source, stretch);
+        target = go_along(u, target, stretch);
+        left -= stretch;
     }
+}
+
+// Whether an element of either range lies in A or B.
+fn touches_either(job: Move) -> bool
+    ensures { λ t. ⌜ t ≡ touched job ⌝ }
+{
+    let u = job.element;
+    let from = job.from;
+    let to = job.to;
+    touches_range(u, from, job.source, job.count) | touches_range(u, to, job.target, job.count)
 }
 
 // The whole of a move, with the registers that follow it.
 fn move_then(
-    u: Element,
-    from: Map,
-    to: Map,
-    s: u16,
-    d: u16,
-    n: u16,
+    job: Move,
     after: Registers,
     r: Registers,
     pages: &[u16],
     memory: &mut [u16],
 ) -> Stepped
-    ensures { λ t. ⌜ ((f : Registers → Registers) → f r ≡ after → Performs (now (pages .entry)) (moved u from to s d n (fin f)) r (now (memory .entry)) t (now (memory .exit))) ⌝ }
+    ensures { λ t. ⌜ ((f : Registers → Registers) → f r ≡ after → Performs (now (pages .entry)) (moved job (fin f)) r (now (memory .entry)) t (now (memory .exit))) ⌝ }
 {
-    if touches_range(u, from, s, n) | touches_range(u, to, d, n) {
+    if touches_either(job) {
         return stop_by(Trouble::InRegisters, r);
     }
-    if !ranges_open(u, from, to, s, d, n, r, pages) {
+    if !ranges_open(job, r, pages) {
         return violate(r);
     }
-    match ranges_present(u, from, to, s, d, n, r, pages, memory) {
+    match ranges_present(job, r, pages, memory) {
         Tested::Ends(t) => stop_by(t, r),
         Tested::Sound => {
-            copy_elements(u, from, to, s, d, n, r, pages, memory);
+            copy_elements(job, r, pages, memory);
             completed(after)
         }
     }
 }
 
 // A and B end past their ranges.
-pub(crate) fn move_elements(
-    u: Element,
-    from: Map,
-    to: Map,
-    s: u16,
-    d: u16,
-    n: u16,
-    r: Registers,
-    pages: &[u16],
-    memory: &mut [u16],
-) -> Stepped
-    ensures { λ t. ⌜ Performs (now (pages .entry)) (moved u from to s d n (fin (λ q. ahead 3 (withB (withA q (along u s n)) (along u d n))))) r (now (memory .entry)) t (now (memory .exit)) ⌝ }
+fn past_ranges(job: Move, r: Registers) -> Registers
+    ensures { λ s. ⌜ s ≡ pastRanges job r ⌝ }
 {
-    let first = set_register(Register::A, r, go_along(u, s, n));
-    let second = set_register(Register::B, first, go_along(u, d, n));
-    move_then(u, from, to, s, d, n, go_ahead(3, second), r, pages, memory)
+    let u = job.element;
+    let first = set_register(Register::A, r, go_along(u, job.source, job.count));
+    let second = set_register(Register::B, first, go_along(u, job.target, job.count));
+    go_ahead(3, second)
 }
 
 // MVW and MBT.
@@ -402,7 +387,15 @@ pub fn move_string(u: Element, r: Registers, pages: &[u16], memory: &mut [u16]) 
             if is_none(n) {
                 return completed(go_ahead(3, r));
             }
-            move_elements(u, Map::Execute, Map::Execute, r.a, r.b, n, r, pages, memory)
+            let job = Move {
+                element: u,
+                from: Map::Execute,
+                to: Map::Execute,
+                source: r.a,
+                target: r.b,
+                count: n,
+            };
+            move_then(job, past_ranges(job, r), r, pages, memory)
         }
         Got::Ends(t) => stop_by(t, r),
     }

@@ -1,7 +1,15 @@
-// Vectors, run and compared with the file stdout: the expected lines were worked out by hand and not
-// taken from a run.
-mod sums;
+// Vectors of the step and the run. Two modules have theirs in code; all others are the lines of the
+// file stdin, whose comments say where the expected lines of the file stdout come from.
+mod all_or_nothing;
+mod image;
+mod line;
+mod overlap;
+mod show;
+mod state;
+mod text;
 
 fn main() {
-    sums::run();
+    overlap::run();
+    all_or_nothing::run();
+    text::run_all();
 }

@@ -1,5 +1,5 @@
 -- `a400::calls::a400_run` meets its contract: a run, with a count that is one number. Assumes nothing.
-use Rattle.a400.proofs.Called.{counted, uncounted}
+use Rattle.a400.proofs.Answering.{counted, uncounted}
 use borrow.Author.Needs.{needs}
 use Rattle.a400.proofs.calls.a400_run.Statement.{statement}
 use Rattle.a400.proofs.calls.a400_run.Tie as tie

@@ -1,5 +1,5 @@
 -- `a400::calls::a400_step` meets its contract: a step is a run of one. Assumes nothing.
-use Rattle.a400.proofs.Called.{step-as-run}
+use Rattle.a400.proofs.Answering.{step-as-run}
 use borrow.Author.Needs.{needs}
 use Rattle.a400.proofs.calls.a400_step.Statement.{statement}
 use Rattle.a400.proofs.calls.a400_step.Tie as tie

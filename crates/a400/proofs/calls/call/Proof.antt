@@ -1,7 +1,7 @@
 -- `a400::calls::call` meets its contract: words that are a record are run, others refused. Assumes nothing.
 use mathlib.Core.Path.{sym, _∙_}
 use Rattle.acts.proofs.Words.{record-length}
-use Rattle.a400.proofs.Called.{run-called, run-refused}
+use Rattle.a400.proofs.Answering.{run-called, run-refused}
 use borrow.Author.Needs.{needs}
 use Rattle.a400.proofs.calls.call.Statement.{statement}
 use Rattle.a400.proofs.calls.call.Tie as tie

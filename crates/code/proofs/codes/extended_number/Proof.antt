@@ -1,4 +1,4 @@
--- `machine::codes::extended_number` meets its contract. Each arm knows which code it has.
+-- `codes::extended_number` meets its contract. Each arm knows which code it has.
 -- Assumes nothing.
 use borrow.Author.Needs.{needs}
 use native.Mathlib.Omega.{arith}
@@ -7,15 +7,6 @@ use Rattle.code.specs.Kinds.{extendedNumber}
 use Rattle.code.proofs.codes.extended_number.Statement.{statement}
 use Rattle.code.proofs.codes.extended_number.Tie as tie
 
-returns : tie.Need-returns
-returns c = omega (arith, ap extendedNumber (c .before .before .before .before .extended .given .1))
-
-returns-2 : tie.Need-returns-2
-returns-2 c = omega (arith, ap extendedNumber (c .before .before .before .before .extended2 .given .1))
-
-returns-3 : tie.Need-returns-3
-returns-3 c = omega (arith, ap extendedNumber (c .before .before .before .extended3 .given .1))
-
 pub extended-number-spec : {M : Type 1} → statement M
 extended-number-spec =
     tie.close
@@ -23,5 +14,8 @@ extended-number-spec =
     (λ c κs. search needs) (λ c. search needs) (λ c. search needs) (λ c κs. search needs) (λ c κs. search needs)
     (λ c. search needs) (λ c κs. search needs) (λ c. search needs) (λ c. search needs) (λ c κs. search needs)
     (λ c κs. search needs) (λ c. search needs) (λ c. search needs) (λ c κs. search needs) (λ c. search needs)
-    (λ c κs. search needs) (λ c. search needs) (λ c κs. search needs) (λ c. search needs) (λ c κs. search needs) returns
-    returns-2 returns-3 (λ c. search needs) (λ c. search needs) (λ c. search needs) (λ c. search needs))
+    (λ c κs. search needs) (λ c. search needs) (λ c κs. search needs) (λ c. search needs) (λ c κs. search needs)
+    (λ c. omega (arith, ap extendedNumber (c .before .before .before .before .extended .given .1)))
+    (λ c. omega (arith, ap extendedNumber (c .before .before .before .before .extended2 .given .1)))
+    (λ c. omega (arith, ap extendedNumber (c .before .before .before .extended3 .given .1))) (λ c. search needs)
+    (λ c. search needs) (λ c. search needs) (λ c. search needs))

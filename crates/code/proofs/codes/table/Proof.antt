@@ -1,4 +1,4 @@
--- `machine::codes::table` meets its contract: the constant table is that of specs/, row by row, which antt computes.
+-- `codes::table` meets its contract: the constant table is that of specs/, row by row, which antt computes.
 -- Assumes nothing.
 use mathlib.Core.Path.{refl}
 use Rattle.code.specs.Codes.{rows}

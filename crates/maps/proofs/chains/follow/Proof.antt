@@ -6,7 +6,7 @@ use mathlib.Core.Path.{_≡_, refl, sym, _∙_}
 use borrow.Author.Needs.{needs}
 use borrow.Author.Tests.{eq-eqb, ne-eqb}
 use Rattle.maps.specs.Chains.{goingOn, chased, executeWord, chain}
-use Rattle.maps.proofs.Behind.{chased-ends, chased-out, chased-on}
+use Rattle.maps.proofs.Accesses.{chased-ends, chased-out, chased-on}
 use Rattle.maps.proofs.chains.follow.Statement.{statement}
 use Rattle.maps.proofs.chains.follow.Tie as tie
 

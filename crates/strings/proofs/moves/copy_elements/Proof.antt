@@ -1,5 +1,5 @@
 -- `moves::copy_elements` meets its contract: by what the count and the move promise. Assumes nothing.
-use Rattle.strings.proofs.Copying.{Moves, moves-inside, moves-run}
+use Rattle.strings.proofs.Copying.{Moves, moves-inside, moves-stretch}
 use Rattle.strings.proofs.Ranges.{ready}
 use Rattle.strings.specs.Strings.{moving}
 use borrow.Author.Needs.{needs}
@@ -9,25 +9,25 @@ use Rattle.strings.proofs.moves.copy_elements.Statement.{statement}
 use Rattle.strings.proofs.moves.copy_elements.Tie as tie
 
 abbrev Inv-loop : tie.InvT-loop
-Inv-loop u from to s d n r pages memory₀ source₀ target₀ left₀ memory source target left = Moves pages r u from to s d n memory₀ source target left memory
+Inv-loop r pages memory₀ u from to s d n memory source target left = Moves pages r u from to s d n memory₀ source target left memory
 
 abbrev μ-loop : tie.MeasureT-loop
-μ-loop u from to s d n r pages memory₀ source₀ target₀ left₀ memory source target left = left
+μ-loop r pages memory₀ u from to s d n memory source target left = left
 
 loop-holds : tie.Need-loop-holds Inv-loop μ-loop
-loop-holds c = let h = ready _ _ _ _ _ _ _ _ _ (c .before .before .pre) in record { lengths = refl; source = h .0; target = h .1; onward = λ k. refl }
+loop-holds c = let h = ready _ _ _ _ (c .before .before .pre) in record { lengths = refl; source = h .0; target = h .1; onward = λ k. refl }
 
-copy-run-requires : tie.Need-copy-run-requires Inv-loop μ-loop
-copy-run-requires c κs = moves-inside _ _ _ _ _ _ _ _ _ _ _ _ _ _ _ (c .before .before .before .before .before .before .before .before .loop-test .taken) (c .before .before .run-of .ensures) (c .before .run-of2 .ensures) (c .before .before .before .before .before .before .before .before .before .loop .inv) (c .before .before .before .before .before .before .element-place .ensures) (rw (c .before .before .before .before .before .purpose-of .ensures) at (c .before .before .before .element-place2 .ensures))
+copy-stretch-requires : tie.Need-copy-stretch-requires Inv-loop μ-loop
+copy-stretch-requires c κs = moves-inside _ _ _ _ _ _ _ _ _ _ _ _ _ _ _ (c .before .before .before .before .before .before .before .before .loop-test .taken) (c .before .before .stretch-of .ensures) (c .before .stretch-of2 .ensures) (c .before .before .before .before .before .before .before .before .before .loop .inv) (c .before .before .before .before .before .before .element-place .ensures) (rw (c .before .before .before .before .before .purpose-of .ensures) at (c .before .before .before .element-place2 .ensures))
 
 sub-left : tie.Need-sub-left Inv-loop μ-loop
-sub-left c = omega (arith, c .before .before .before .before .before .before .before .run-of .ensures .within, c .before .before .before .before .before .before .run-of2 .ensures .within)
+sub-left c = omega (arith, c .before .before .before .before .before .before .before .stretch-of .ensures .within, c .before .before .before .before .before .before .stretch-of2 .ensures .within)
 
 loop-less : tie.Need-loop-less Inv-loop μ-loop
-loop-less c = omega (arith, c .before .before .before .before .before .before .before .run-of .ensures .within, c .before .before .before .before .before .before .run-of2 .ensures .within, c .before .before .before .before .before .before .run-of2 .ensures .some (c .before .before .before .before .before .before .before .run-of .ensures .some (c .before .before .before .before .before .before .before .before .before .before .before .before .before .loop-test .taken)))
+loop-less c = omega (arith, c .before .before .before .before .before .before .before .stretch-of .ensures .within, c .before .before .before .before .before .before .stretch-of2 .ensures .within, c .before .before .before .before .before .before .stretch-of2 .ensures .some (c .before .before .before .before .before .before .before .stretch-of .ensures .some (c .before .before .before .before .before .before .before .before .before .before .before .before .before .loop-test .taken)))
 
 loop-again : tie.Need-loop-again Inv-loop μ-loop
-loop-again c = moves-run _ _ _ _ _ _ _ _ _ _ _ _ _ _ _ (c .before .before .before .before .before .before .before .before .before .before .before .before .before .loop-test .taken) (c .before .before .before .before .before .before .before .run-of .ensures) (c .before .before .before .before .before .before .run-of2 .ensures) (c .before .before .before .before .before .before .before .before .before .before .before .before .before .before .loop .inv) (c .before .before .before .before .before .before .before .before .before .before .before .element-place .ensures) (rw (c .before .before .before .before .before .before .before .before .before .before .purpose-of .ensures) at (c .before .before .before .before .before .before .before .before .element-place2 .ensures)) (c .before .before .before .before .copy-run .ensures) (c .before .go-along .ensures) (c .go-along2 .ensures)
+loop-again c = moves-stretch _ _ _ _ _ _ _ _ _ _ _ _ _ _ _ (c .before .before .before .before .before .before .before .before .before .before .before .before .before .loop-test .taken) (c .before .before .before .before .before .before .before .stretch-of .ensures) (c .before .before .before .before .before .before .stretch-of2 .ensures) (c .before .before .before .before .before .before .before .before .before .before .before .before .before .before .loop .inv) (c .before .before .before .before .before .before .before .before .before .before .before .element-place .ensures) (rw (c .before .before .before .before .before .before .before .before .before .before .purpose-of .ensures) at (c .before .before .before .before .before .before .before .before .element-place2 .ensures)) (c .before .before .before .before .copy-stretch .ensures) (c .before .go-along .ensures) (c .go-along2 .ensures)
 
 same-length : tie.Need-same-length Inv-loop μ-loop
 same-length c = c .before .loop .inv .lengths
@@ -40,5 +40,5 @@ pub copy-elements-spec : {M : Type 1} → statement M
 copy-elements-spec =
     tie.close
     (tie.spec Inv-loop μ-loop loop-holds (λ c κs. search needs) (λ c κs. search needs) (λ c κs. search needs)
-    (λ c κs. search needs) (λ c κs. search needs) copy-run-requires (λ c κs. search needs) (λ c κs. search needs)
+    (λ c κs. search needs) (λ c κs. search needs) copy-stretch-requires (λ c κs. search needs) (λ c κs. search needs)
     sub-left loop-less loop-again same-length returns)

@@ -7,7 +7,7 @@ use Rattle.strings.specs.Strings.{touches, opensAll}
 use Prim.Native.Nat.{ℕ}
 use native.Mathlib.Omega.{arith}
 use mathlib.Core.Path.{_≡_, refl, _∙_}
-use Rattle.strings.proofs.Runs.{touches-past, opens-past}
+use Rattle.strings.proofs.Stretches.{touches-past, opens-past}
 use Rattle.strings.proofs.Ranges.{opens-on}
 use Rattle.strings.proofs.moves.range_open.Statement.{statement}
 use Rattle.strings.proofs.moves.range_open.Tie as tie
@@ -22,13 +22,13 @@ loop-holds : tie.Need-loop-holds Inv-loop μ-loop
 loop-holds c = (c .before .pre, λ m k. refl)
 
 sub-left : tie.Need-sub-left Inv-loop μ-loop
-sub-left c = omega (arith, c .before .run-of .ensures .within)
+sub-left c = omega (arith, c .before .stretch-of .ensures .within)
 
 loop-less : tie.Need-loop-less Inv-loop μ-loop
-loop-less c = omega (arith, c .before .run-of .ensures .within, c .before .run-of .ensures .some (c .before .before .before .before .before .loop-test .taken))
+loop-less c = omega (arith, c .before .stretch-of .ensures .within, c .before .stretch-of .ensures .some (c .before .before .before .before .before .loop-test .taken))
 
 loop-again : tie.Need-loop-again Inv-loop μ-loop
-loop-again c = rw (c .go-along .ensures) (touches-past _ _ _ _ _ (c .before .before .before .before .before .loop-test .taken) (c .before .run-of .ensures) (c .before .before .before .before .before .before .loop .inv .0), λ m k. c .before .before .before .before .before .before .loop .inv .1 m k ∙ opens-past _ _ _ _ _ _ _ _ k m (c .before .before .before .before .before .loop-test .taken) (c .before .run-of .ensures) (c .before .before .before .before .before .before .loop .inv .0) (c .before .before .before .before .word-at .ensures) (c .before .before .before .is-open .ensures) (c .before .before .if1 .taken))
+loop-again c = rw (c .go-along .ensures) (touches-past _ _ _ _ _ (c .before .before .before .before .before .loop-test .taken) (c .before .stretch-of .ensures) (c .before .before .before .before .before .before .loop .inv .0), λ m k. c .before .before .before .before .before .before .loop .inv .1 m k ∙ opens-past _ _ _ _ _ _ _ _ k m (c .before .before .before .before .before .loop-test .taken) (c .before .stretch-of .ensures) (c .before .before .before .before .before .before .loop .inv .0) (c .before .before .before .before .word-at .ensures) (c .before .before .before .is-open .ensures) (c .before .before .if1 .taken))
 
 returns : tie.Need-returns Inv-loop μ-loop
 returns c = λ m k. c .before .before .before .before .loop .inv .1 m k ∙ opens-on _ _ _ _ _ _ _ k m (c .before .before .before .loop-test .taken) (c .before .before .word-at .ensures) (c .before .is-open .ensures) (c .if1 .left)

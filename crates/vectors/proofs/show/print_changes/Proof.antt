@@ -1,0 +1,30 @@
+-- `vectors::show::print_changes` is safe and ends. Assumes nothing.
+use borrow.Author.Needs.{needs}
+use native.Mathlib.Omega.{arith}
+use Prim.Native.Nat.{_≤_, _-_}
+use Rattle.vectors.proofs.show.print_changes.Statement.{statement}
+use Rattle.vectors.proofs.show.print_changes.Tie as tie
+
+abbrev Inv-loop : tie.InvT-loop
+Inv-loop label words image at n i₀ i = i ≤ n
+
+abbrev μ-loop : tie.MeasureT-loop
+μ-loop label words image at n i₀ i = n - i
+
+loop-holds : tie.Need-loop-holds Inv-loop μ-loop
+loop-holds c = omega arith
+
+add-i : tie.Need-add-i Inv-loop μ-loop
+add-i c = omega arith
+
+loop-less : tie.Need-loop-less Inv-loop μ-loop
+loop-less c = omega arith
+
+loop-again : tie.Need-loop-again Inv-loop μ-loop
+loop-again c = omega arith
+
+pub print-changes-spec : {M : Type 1} → statement M
+print-changes-spec =
+    tie.close
+    (tie.spec Inv-loop μ-loop loop-holds (λ c κs. search needs) (λ c κs. search needs) (λ c κs. search needs)
+    (λ c κs. search needs) add-i loop-less loop-again (λ c. search needs))
