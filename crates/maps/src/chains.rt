@@ -1,8 +1,10 @@
 // An indirect chain, through the Execute map.
 ghost use mathlib.Core.Path.{_≡_};
 ghost use Rattle.maps.specs.Chains.{chain};
-use crate::access::read_word;
 use crate::pages::Map;
+use crate::pages::Place;
+use crate::pages::Purpose;
+use crate::pages::place_of;
 use crate::troubles::Got;
 use crate::troubles::Trouble;
 
@@ -17,9 +19,11 @@ pub fn follow(pages: &[u16], memory: &[u16], wmap: u16, word: u16, a: u16, b: u1
             return Got::Ends(Trouble::Endless);
         }
         left -= 1;
-        match read_word(pages, memory, wmap, Map::Execute, last, a, b) {
-            Got::Value(next) => last = next,
-            Got::Ends(trouble) => return Got::Ends(trouble),
+        match place_of(pages, wmap, Map::Execute, Purpose::Read, last, memory.len()) {
+            Place::Memory(index) => last = memory[index],
+            Place::A => last = a,
+            Place::B => last = b,
+            Place::Ends(trouble) => return Got::Ends(trouble),
         }
     }
     Got::Value(last % 32768)
