@@ -19,7 +19,7 @@ pub extern "C" fn a400_fresh(words: &mut [u16]) -> u32
 }
 
 // The reply's number, and the count.
-#[derive(Drop)]
+#[derive(Clone, Copy)]
 struct Made {
     reply: u32,
     count: u32,

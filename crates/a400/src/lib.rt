@@ -1,3 +1,5 @@
+#![tactic(auto)]
+
 pub mod calls;
 pub mod fields;
 pub mod record;

@@ -11,7 +11,7 @@ use word::sums::past;
 
 // The order of the fields is no part of their meaning. In this one no register that most steps change lies
 // beside others that they leave, as such are copied as one number and taken apart again at each step.
-#[derive(Drop)]
+#[derive(Clone, Copy)]
 pub struct Registers {
     pub a: u16,
     pub x: u16,
@@ -173,7 +173,7 @@ pub fn apart(r: Registers) -> Registers
 pub const RECORD_WORDS: usize = 14;
 
 // The registers that words stand for, if they are a record.
-#[derive(Drop)]
+#[derive(Clone, Copy)]
 pub enum Taken {
     Record(Registers),
     NoRecord,

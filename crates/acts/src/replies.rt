@@ -8,7 +8,7 @@ use crate::record::{Registers, interrupt};
 use maps::troubles::Trouble;
 
 // Why a step is refused. An absent page is told by its number.
-#[derive(Drop)]
+#[derive(Clone, Copy)]
 pub enum Refusal {
     InputOutput,
     Endless,
@@ -18,7 +18,7 @@ pub enum Refusal {
     TrapCell,
 }
 
-#[derive(Drop)]
+#[derive(Clone, Copy)]
 pub enum Reply {
     Completed,
     Violation,
@@ -52,14 +52,14 @@ pub fn number_of(reply: Reply) -> u32
 }
 
 // The reply with the registers that go with it.
-#[derive(Drop)]
+#[derive(Clone, Copy)]
 pub struct Stepped {
     pub reply: Reply,
     pub registers: Registers,
 }
 
 // A run's reply, the number of its steps that replied 0 or 1, and the registers.
-#[derive(Drop)]
+#[derive(Clone, Copy)]
 pub struct Ran {
     pub reply: Reply,
     pub count: u32,

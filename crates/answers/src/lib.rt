@@ -1,1 +1,2 @@
 // Theorems over the machine; no function.
+#![tactic(auto)]

@@ -11,27 +11,27 @@ ghost use Rattle.code.specs.Codes.{rows, find_word, find_kind, length_of, privil
 use crate::choices::register_at;
 use word::long::LongShift;
 
-#[derive(Drop)]
+#[derive(Clone, Copy)]
 pub enum Register {
     A,
     B,
 }
 
-#[derive(Drop)]
+#[derive(Clone, Copy)]
 pub enum Index {
     X,
     Y,
 }
 
 // The data maps DATA1 and DATA2.
-#[derive(Drop)]
+#[derive(Clone, Copy)]
 pub enum Data {
     One,
     Two,
 }
 
 // Loads, stores and compares of A or B through DATA1 or DATA2: `Xl`, B, `Two` is XLB2.
-#[derive(Drop)]
+#[derive(Clone, Copy)]
 pub enum Cross {
     Xl,
     Xs,
@@ -39,7 +39,7 @@ pub enum Cross {
 }
 
 // Between A or B and X or Y: `Sax`, B, Y is SBY.
-#[derive(Drop)]
+#[derive(Clone, Copy)]
 pub enum Transfer {
     Sax,
     Cax,
@@ -49,7 +49,7 @@ pub enum Transfer {
 }
 
 // Of X or Y alone: `Stx`, Y is STY.
-#[derive(Drop)]
+#[derive(Clone, Copy)]
 pub enum Indexing {
     Stx,
     Ldx,
@@ -59,7 +59,7 @@ pub enum Indexing {
 }
 
 // With one address word, on A and B.
-#[derive(Drop)]
+#[derive(Clone, Copy)]
 pub enum Arithmetic {
     Mpy,
     Div,
@@ -67,7 +67,7 @@ pub enum Arithmetic {
     Dst,
 }
 
-#[derive(Drop)]
+#[derive(Clone, Copy)]
 pub enum Bytes {
     Lbt,
     Sbt,
@@ -75,21 +75,21 @@ pub enum Bytes {
     Cbt,
 }
 
-#[derive(Drop)]
+#[derive(Clone, Copy)]
 pub enum Bits {
     Sbs,
     Cbs,
     Tbs,
 }
 
-#[derive(Drop)]
+#[derive(Clone, Copy)]
 pub enum Words {
     Cmw,
     Mvw,
 }
 
 // The exact codes.
-#[derive(Drop)]
+#[derive(Clone, Copy)]
 pub enum Extended {
     Cross(Cross, Register, Data),
     Transfer(Transfer, Register, Index),
@@ -101,28 +101,28 @@ pub enum Extended {
 }
 
 // What a row of the table is of: an exact code, or a long shift, whose low four bits are a count.
-#[derive(Drop)]
+#[derive(Clone, Copy)]
 pub enum Kind {
     Exact(Extended),
     Long(LongShift),
 }
 
 // A row of the table as a search gives it.
-#[derive(Drop)]
+#[derive(Clone, Copy)]
 pub struct Entry {
     pub code: u16,
     pub length: u16,
     pub kind: Kind,
 }
 
-#[derive(Drop)]
+#[derive(Clone, Copy)]
 pub enum Found {
     At(Entry),
     Nothing,
 }
 
 // A row as the table keeps it: code, length, and the number of the kind.
-#[derive(Drop)]
+#[derive(Clone, Copy)]
 struct Row(u16, u16, u16);
 
 // A kind's number is group * 64 + operation * 4 + register * 2 + index: in octal, a digit for the group, then

@@ -13,7 +13,7 @@ use crate::codes::{Extended, Found, Kind, Register};
 use word::long::LongShift;
 use word::shifts::ShiftCode;
 
-#[derive(Drop)]
+#[derive(Clone, Copy)]
 pub enum Operation {
     And,
     Jsb,
@@ -32,7 +32,7 @@ pub enum Operation {
 }
 
 // The first shift, CLE, SLA and the second shift, in this order.
-#[derive(Drop)]
+#[derive(Clone, Copy)]
 pub struct ShiftRotate {
     pub register: Register,
     pub enabled1: bool,
@@ -44,7 +44,7 @@ pub struct ShiftRotate {
 }
 
 // What is done to A or B (CLA, CMA, CCA) or to E (CLE, CME, CCE).
-#[derive(Drop)]
+#[derive(Clone, Copy)]
 pub enum Alter {
     Keep,
     Clear,
@@ -52,7 +52,7 @@ pub enum Alter {
     Ones,
 }
 
-#[derive(Drop)]
+#[derive(Clone, Copy)]
 pub struct AlterSkip {
     pub register: Register,
     pub alter: Alter,
@@ -66,7 +66,7 @@ pub struct AlterSkip {
 }
 
 // `Flag` is STF, or CLF with bit 9; `Control` is STC, or CLC with bit 11.
-#[derive(Drop)]
+#[derive(Clone, Copy)]
 pub enum IoOperation {
     Hlt,
     Flag,
@@ -78,7 +78,7 @@ pub enum IoOperation {
     Control,
 }
 
-#[derive(Drop)]
+#[derive(Clone, Copy)]
 pub enum Instruction {
     MemoryReference {
         operation: Operation,
@@ -103,7 +103,7 @@ pub enum Instruction {
 }
 
 // The word of an instruction, or reply 9.
-#[derive(Drop)]
+#[derive(Clone, Copy)]
 pub enum Written {
     Word(u16),
     NoWord,

@@ -19,7 +19,7 @@ use word::products::{Product, Quotient, divide, multiply};
 use word::sums::{add, increment, past};
 
 // What is done with a word that is read.
-#[derive(Drop)]
+#[derive(Clone, Copy)]
 pub enum Taking {
     And,
     Xor,
@@ -34,20 +34,20 @@ pub enum Taking {
 }
 
 // What is stored.
-#[derive(Drop)]
+#[derive(Clone, Copy)]
 pub enum Source {
     Register(Register),
     Index(Index),
 }
 
 // Where the word lies: at the address, or X or Y past it.
-#[derive(Drop)]
+#[derive(Clone, Copy)]
 pub enum Addressing {
     Plain,
     Indexed(Index),
 }
 
-#[derive(Drop)]
+#[derive(Clone, Copy)]
 pub enum Way {
     Take(Taking, Map, Addressing),
     Put(Source, Map, Addressing),

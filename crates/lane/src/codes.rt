@@ -130,7 +130,7 @@ fn put(value: u16, at: u16, r: Registers, pages: &[u16], memory: &mut [u16]) -> 
 }
 
 // What a code with an address word does there. The map is Execute.
-#[derive(Drop)]
+#[derive(Clone, Copy)]
 pub enum Asked {
     Take(Taking, Addressing),
     Put(Source, Addressing),

@@ -66,7 +66,7 @@ fn quick(r: Registers, pages: &[u16], memory: &mut [u16]) -> Went
 }
 
 // The steps that were made, and the registers after them.
-#[derive(Drop)]
+#[derive(Clone, Copy)]
 pub struct Rolled {
     pub registers: Registers,
     pub count: u32,

@@ -1,4 +1,6 @@
 // The frequent steps of a run. Each gives what the general step gives, or is left to it with nothing changed.
+#![tactic(auto)]
+
 pub mod codes;
 pub mod group;
 pub mod lane;

@@ -3,6 +3,8 @@
 //     2 060100 LDA 100, 3 040101 ADA 101, 4 064102 LDB 102, 5 034103 ISZ 103, 6 024005 JMP 5,
 //     7 025234 JMP 1234, 100 045670, 101 055566, 102 076543, 103 177676 (minus 66), 1234 102000 HLT
 // The sum is 123456 with overflow and no carry. Steps: 3, then 66 of ISZ and 65 of JMP 5, then JMP 1234.
+#![tactic(auto)]
+
 fn main() {
     list::show::list_input();
 }

@@ -10,7 +10,7 @@ use lane::lane::lane;
 use steps::perform::fetch;
 
 // What one step makes of a run: it goes on, or it has ended with this step.
-#[derive(Drop)]
+#[derive(Clone, Copy)]
 pub enum Turn {
     On(Registers),
     Ended(Ran),

@@ -6,7 +6,7 @@ ghost use Rattle.maps.specs.Pages.{is_register, is_open, presence, place};
 use crate::troubles::{Tested, Trouble};
 
 // The three current maps, which WMAP names.
-#[derive(Drop)]
+#[derive(Clone, Copy)]
 pub enum Map {
     Execute,
     Data1,
@@ -14,7 +14,7 @@ pub enum Map {
 }
 
 // What an access is for. A byte store keeps the other half of its word, and is both.
-#[derive(Drop)]
+#[derive(Clone, Copy)]
 pub enum Purpose {
     Read,
     Store,
@@ -22,7 +22,7 @@ pub enum Purpose {
 }
 
 // Where an access ends: A, B, an index into memory, or trouble.
-#[derive(Drop)]
+#[derive(Clone, Copy)]
 pub enum Place {
     A,
     B,

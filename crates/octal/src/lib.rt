@@ -1,4 +1,6 @@
 // A word as six octal digits, and a bit as one: their bytes, and the bytes on standard output.
+#![tactic(auto)]
+
 ghost use Rattle.std.specs.Prelude.{◌≡◌};
 ghost use Rattle.octal.specs.Digits.{octal_digits, bit_digit};
 

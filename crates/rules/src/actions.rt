@@ -17,13 +17,13 @@ use strings::strings::Element;
 use word::long::LongShift;
 
 // Where an instruction finds its address word: it is made from the instruction itself, or is the next word.
-#[derive(Drop)]
+#[derive(Clone, Copy)]
 pub enum Operand {
     Made(u16),
     Next,
 }
 
-#[derive(Drop)]
+#[derive(Clone, Copy)]
 pub enum Action {
     At(Way, Operand),
     ShiftRotate(ShiftRotate),

@@ -25,7 +25,7 @@ fn leave_trap(to: u16, r: Registers) -> Registers
 }
 
 fn trap_jump(word: u16, r: Registers, pages: &[u16], memory: &[u16]) -> Stepped
-    ensures* { λ s. ⌜ Performs pages.now (following word (λ m. fin (λ s. with_trap (with_p s m) 0))) r memory.now s memory.now ⌝ }
+    ensures { Performs pages.now (following word (λ m. fin (λ s. with_trap (with_p s m) 0))) r memory.now result memory.now }
 {
     match follow(pages, memory, r.wmap, word, r.a, r.b) {
         Got::Value(at) => completed(leave_trap(at, r)),
@@ -35,7 +35,7 @@ fn trap_jump(word: u16, r: Registers, pages: &[u16], memory: &[u16]) -> Stepped
 
 // The trap cell's JSB: P itself is stored.
 fn trap_jump_saving(word: u16, r: Registers, pages: &[u16], memory: &mut [u16]) -> Stepped
-    ensures* { λ s. ⌜ Performs pages.now (following word (λ m. save Map.Execute m r.p (fin (λ s. with_trap (with_p s (address m 1)) 0)))) r memory.old s memory.new ⌝ }
+    ensures { Performs pages.now (following word (λ m. save Map.Execute m r.p (fin (λ s. with_trap (with_p s (address m 1)) 0)))) r memory.old result memory.new }
 {
     match follow(pages, memory, r.wmap, word, r.a, r.b) {
         Got::Value(at) => {

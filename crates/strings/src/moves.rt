@@ -15,7 +15,7 @@ use maps::troubles::{Got, Tested, Trouble};
 use word::bits::{byte_of, with_byte};
 
 // What is moved, from where to where, each through a map, and how many of it.
-#[derive(Drop)]
+#[derive(Clone, Copy)]
 pub struct Move {
     pub element: Element,
     pub from: Map,

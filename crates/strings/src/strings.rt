@@ -19,7 +19,7 @@ use word::orders::{Order, compare_bytes, compare_words};
 use word::sums::past;
 
 // What a string is made of.
-#[derive(Drop)]
+#[derive(Clone, Copy)]
 pub enum Element {
     Word,
     Byte,
@@ -117,14 +117,14 @@ pub fn store_byte(r: Registers, pages: &[u16], memory: &mut [u16]) -> Stepped
 }
 
 // How one pair compares, or what ends the step.
-#[derive(Drop)]
+#[derive(Clone, Copy)]
 pub enum Pair {
     Ordered(Order),
     Ends(Trouble),
 }
 
 // Where a comparison ends: no difference, or its place in the first array.
-#[derive(Drop)]
+#[derive(Clone, Copy)]
 pub enum Found {
     Equal(u16),
     Smaller(u16),

@@ -70,7 +70,7 @@ pub(crate) const END: u8 = 4;
 
 // What has been read: the word or number that is not ended, the last word that is, whether a number
 // has come since, where the next one goes, and whether something was wrong.
-#[derive(Drop)]
+#[derive(Clone, Copy)]
 pub(crate) struct Line {
     pub(crate) place: u8,
     pub(crate) word: u32,

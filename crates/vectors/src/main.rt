@@ -1,5 +1,7 @@
 // Vectors of the step and the run. Two modules have theirs in code; all others are the lines of the
 // file stdin, whose comments say where the expected lines of the file stdout come from.
+#![tactic(auto)]
+
 mod all_or_nothing;
 mod image;
 mod line;

@@ -1,5 +1,7 @@
 // Layer 1: 16-bit words. Every function takes all values of its types, and its promise is one
 // equation to a definition in specs/.
+#![tactic(auto)]
+
 pub mod bits;
 pub mod long;
 pub mod orders;

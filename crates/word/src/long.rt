@@ -2,7 +2,7 @@
 ghost use Rattle.std.specs.Prelude.{◌≡◌, false, ◌||◌};
 ghost use Rattle.word.specs.Long.{places, moved, overflowed, long_shifted};
 
-#[derive(Drop)]
+#[derive(Clone, Copy)]
 pub enum LongShift {
     Asl,
     Lsl,
@@ -12,7 +12,7 @@ pub enum LongShift {
     Rrr,
 }
 
-#[derive(Drop)]
+#[derive(Clone, Copy)]
 pub struct Long {
     pub b: u16,
     pub a: u16,

@@ -2,7 +2,7 @@
 ghost use Rattle.std.specs.Prelude.{◌≡◌};
 ghost use Rattle.word.specs.Orders.{order_of_words, order_of_bytes};
 
-#[derive(Drop)]
+#[derive(Clone, Copy)]
 pub enum Order {
     Smaller,
     Equal,

@@ -4,13 +4,13 @@ ghost use Rattle.std.specs.Int.{w16, w32};
 ghost use Rattle.word.specs.Signed.{bits_of, within};
 ghost use Rattle.word.specs.Products.{multiplied, quotient_of, divided};
 
-#[derive(Drop)]
+#[derive(Clone, Copy)]
 pub struct Product {
     pub b: u16,
     pub a: u16,
 }
 
-#[derive(Drop)]
+#[derive(Clone, Copy)]
 pub enum Quotient {
     // the quotient and the remainder
     Divided(u16, u16),

@@ -2,7 +2,7 @@
 ghost use Rattle.std.specs.Prelude.{◌≡◌};
 ghost use Rattle.word.specs.Shifts.{turned, extended, shifted, unshifted};
 
-#[derive(Drop)]
+#[derive(Clone, Copy)]
 pub enum ShiftCode {
     Als,
     Ars,
@@ -14,7 +14,7 @@ pub enum ShiftCode {
     Alf,
 }
 
-#[derive(Drop)]
+#[derive(Clone, Copy)]
 pub struct Shifted {
     pub word: u16,
     pub e: bool,

@@ -2,7 +2,7 @@
 ghost use Rattle.std.specs.Prelude.{◌≡◌};
 ghost use Rattle.word.specs.Sums.{sum, incremented, decremented, address};
 
-#[derive(Drop)]
+#[derive(Clone, Copy)]
 pub struct Sum {
     pub word: u16,
     // out of bit 15

@@ -1,4 +1,6 @@
 // Reads all 65,536 words and prints how many are of each class.
+#![tactic(auto)]
+
 use code::instructions::Instruction;
 use libc::STDOUT_FILENO;
 
