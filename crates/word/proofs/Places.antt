@@ -3,7 +3,7 @@
 -- O (`overflowed_add`), and to go none changes nothing (`moved_none`, `overflowed_none`). Assumes nothing.
 use Rattle.std.proofs.Common.{◌≡◌, ℕ, zero, suc, ◌+◌, ◌-◌, ◌*◌, ◌/◌, ◌%◌, ◌^◌, ◌<◌, ◌≤◌, Bool, true, false, cond, not, ◌&&◌, ◌||◌, eqb, ℤ, pos, negsuc, sym, refl, ap, ◌∙◌, mod-lt, one-mul, div-add-mod', zero-mul, div-one, arith, pow_pos, pow-add, shr-shr, shr_lt, w32, Fits, SFits, to_z, of_z, eq-eqb, ne_eqb, eqb-true}
 use mathlib.Core.Path.{subst⁻¹}
-use mathlib.Core.Bool.{or_false}
+use mathlib.Core.Bool.{or-false}
 use native.Mathlib.Nat.{zero-div, zero-mod, mul-add-mod_self_right, div-div-eq-div-mul, mul-div-mul_right}
 use lib.Arith.{digits_div, digits_mod, digits_lt, mul_pred}
 use lib.Pow.{field}
@@ -200,8 +200,8 @@ overflowed_add Asl i j d o l h =
     let high : m / 2 ^ (31 - i) ≡ m / 2 ^ c / 2 ^ j = ap (λ (t : ℕ). m / 2 ^ t) (omega arith) ∙ sym (shr-shr m c j) in
     let low : moved Asl i d % 2 ^ 31 / 2 ^ (31 - j) ≡ m / 2 ^ c % 2 ^ j = low_lost i j d l in
     rw (high, low, asl_high i d, pow-add 2 i j) (lost (d / 2 ^ 31) (m / 2 ^ c) (omega arith) (pow_pos i) (pow_pos j))
-overflowed_add Lsl i j d o l h = sym (or_false o)
-overflowed_add Rrl i j d o l h = sym (or_false o)
+overflowed_add Lsl i j d o l h = sym (or-false o)
+overflowed_add Rrl i j d o l h = sym (or-false o)
 overflowed_add Asr i j d o l h = refl
-overflowed_add Lsr i j d o l h = sym (or_false o)
-overflowed_add Rrr i j d o l h = sym (or_false o)
+overflowed_add Lsr i j d o l h = sym (or-false o)
+overflowed_add Rrr i j d o l h = sym (or-false o)
