@@ -10,12 +10,12 @@ if [ -z "${A400_LIB_DIR:-}" ]; then
         echo "there is no rt: install it, or set A400_LIB_DIR to a folder that holds liba400.a" >&2
         exit 1
     }
-    (cd "$top" && rt staticlib a400) >"${TMPDIR:-/tmp}/a400-staticlib.$$" 2>&1 || {
-        cat "${TMPDIR:-/tmp}/a400-staticlib.$$" >&2
+    (cd "$top/crates/a400" && rt lib) >"${TMPDIR:-/tmp}/a400-lib.$$" 2>&1 || {
+        cat "${TMPDIR:-/tmp}/a400-lib.$$" >&2
         exit 1
     }
-    rm -f "${TMPDIR:-/tmp}/a400-staticlib.$$"
-    A400_LIB_DIR=$top/target/staticlib
+    rm -f "${TMPDIR:-/tmp}/a400-lib.$$"
+    A400_LIB_DIR=$top/crates/a400/out
 fi
 library=$(cd "$A400_LIB_DIR" && pwd)
 if [ -f "$library/a400.h" ]; then include=$library; else include=$top/include; fi

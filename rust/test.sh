@@ -2,7 +2,7 @@
 # Runs all tests of the workspace: the paper's cases and listing, random steps and
 # runs compared, the reader and writer, the command, and the C example.
 #
-# A400_LIB_DIR   a folder that holds liba400.a; else `rt staticlib a400` makes it
+# A400_LIB_DIR   a folder that holds liba400.a; else `rt lib` in crates/a400 makes it
 # A400_SEED      the seed of the random tests, else 1
 # A400_STEPS     how many random steps, else 1,000,000
 set -eu

@@ -1,9 +1,10 @@
 // Finds the proved library, liba400.a, and links it.
 //
-// A400_LIB_DIR names the folder that holds it. Without that, `rt staticlib
-// a400` proves and builds it at the top of the repository, for x86-64.
+// A400_LIB_DIR names the folder that holds it. Without that, `rt lib` in
+// crates/a400 of the repository proves and builds it, for x86-64.
 
 use std::env;
+use std::fs;
 use std::path::{Path, PathBuf};
 use std::process::Command;
 
@@ -37,15 +38,31 @@ fn built_here() -> PathBuf {
     }
     let package = PathBuf::from(env::var_os("CARGO_MANIFEST_DIR").expect("set by cargo"));
     let top = package.ancestors().nth(2).expect("the package lies in rust/ of the repository").to_path_buf();
-    for source in ["crates", "crates.txt"] {
-        println!("cargo:rerun-if-changed={}", top.join(source).display());
+    println!("cargo:rerun-if-changed={}", top.join("crates.txt").display());
+    for source in sources(&top.join("crates")) {
+        println!("cargo:rerun-if-changed={}", source.display());
     }
-    prove(&top);
-    top.join("target").join("staticlib")
+    let library = top.join("crates").join("a400");
+    prove(&library);
+    library.join("out")
 }
 
-fn prove(top: &Path) {
-    let output = match Command::new("rt").args(["staticlib", "a400"]).current_dir(top).output() {
+// What is written by hand in the crates: a crate's out/, which `rt` fills, is
+// left out.
+fn sources(crates: &Path) -> Vec<PathBuf> {
+    let folders = match fs::read_dir(crates) {
+        Ok(folders) => folders,
+        Err(error) => stop(&format!("cannot read {} ({error})", crates.display())),
+    };
+    folders
+        .flatten()
+        .flat_map(|folder| ["src", "specs", "proofs"].map(|part| folder.path().join(part)))
+        .filter(|part| part.is_dir())
+        .collect()
+}
+
+fn prove(library: &Path) {
+    let output = match Command::new("rt").arg("lib").current_dir(library).output() {
         Ok(output) => output,
         Err(error) => stop(&format!(
             "cannot start `rt` ({error}). Install it, or set A400_LIB_DIR to a folder that holds liba400.a"
@@ -53,7 +70,7 @@ fn prove(top: &Path) {
     };
     if !output.status.success() {
         let told = String::from_utf8_lossy(&output.stdout).into_owned() + &String::from_utf8_lossy(&output.stderr);
-        stop(&format!("`rt staticlib a400` failed:\n{told}"));
+        stop(&format!("`rt lib` in {} failed:\n{told}", library.display()));
     }
 }
 

@@ -17,7 +17,7 @@ made=$(cd "$made" && pwd)
 
 kit=''
 if command -v rt >/dev/null; then
-    kit=$(dirname "$(readlink -f "$(command -v rt)")")/../on/$(uname -m)/toolchain/bin
+    kit=$(dirname "$(readlink -f "$(command -v rt)")")/../toolchain/bin
 fi
 find_tool() { # NAME GIVEN
     if [ -n "$2" ]; then echo "$2"; return; fi

@@ -3,7 +3,7 @@
 # to be timed, from the LLVM module that the proved library is compiled from.
 # Prints the folder that holds that liba400.a.
 #
-# `rt staticlib a400` is run with a clang that keeps the module and its flags.
+# `rt lib` is run in crates/a400 with a clang that keeps the module and its flags.
 # In the module's text the names of the processor are then exchanged, and the
 # same clang compiles it with the same flags.
 set -eu
@@ -14,35 +14,33 @@ command -v rt >/dev/null || {
     exit 1
 }
 kit=$(cd "$(dirname "$(readlink -f "$(command -v rt)")")/.." && pwd)
-own=on/$(uname -m)
-clang=$kit/$own/toolchain/bin/clang
+clang=$kit/toolchain/bin/clang
 [ -x "$clang" ] || {
     echo "native: there is no $clang" >&2
     exit 1
 }
 made=$here/../../rust/target/native
 rm -rf "$made"
-mkdir -p "$made/kit/$own/toolchain/bin"
+mkdir -p "$made/kit/bin" "$made/kit/toolchain/bin"
 made=$(cd "$made" && pwd)
 
-# A kit of links to the kit, but for clang.
-link_all() { # FOLDER EXCEPTION
-    for part in "$kit/$1"/*; do
-        [ "$(basename "$part")" = "$2" ] || ln -s "$part" "$made/kit/$1/"
-    done
-}
-link_all . on
-link_all "$own" toolchain
-link_all "$own/toolchain" bin
-link_all "$own/toolchain/bin" clang
-cat >"$made/kit/$own/toolchain/bin/clang" <<END
+# A kit of links to the kit, but for clang, and for rt and its module, which find
+# the kit by where they lie.
+for part in "$kit"/* "$kit"/bin/* "$kit"/toolchain/* "$kit"/toolchain/bin/*; do
+    case ${part#"$kit"/} in
+        bin | toolchain | toolchain/bin | toolchain/bin/clang) ;;
+        bin/rt | bin/rtlib.py) cp "$part" "$made/kit/bin/" ;;
+        *) ln -s "$part" "$made/kit/${part#"$kit"/}" ;;
+    esac
+done
+cat >"$made/kit/toolchain/bin/clang" <<END
 #!/bin/sh
 cp module.bc "$made/module.bc"
 printf '%s\n' "\$@" >"$made/flags"
 exec "$clang" "\$@"
 END
-chmod +x "$made/kit/$own/toolchain/bin/clang"
-(cd "$top" && RATTLE_HOME=$made/kit rt staticlib a400) >"$made/log" 2>&1 || {
+chmod +x "$made/kit/toolchain/bin/clang"
+(cd "$top/crates/a400" && "$made/kit/bin/rt" lib) >"$made/log" 2>&1 || {
     cat "$made/log" >&2
     exit 1
 }
@@ -50,10 +48,11 @@ chmod +x "$made/kit/$own/toolchain/bin/clang"
     echo "native: no module was kept" >&2
     exit 1
 }
+rm -rf "$made/kit"
 
 flags=$(grep -v -e '^--target=' -e '^-march=' -e '^--sysroot=' -e '^-o$' -e '^module\.' "$made/flags")
 foreign=$(grep '^--target=' "$made/flags")
-triple=$("$clang" --no-default-config -print-target-triple)
+triple=$("$clang" --no-default-config "--target=$(cc -dumpmachine)" -print-target-triple)
 "$clang" "$foreign" --no-default-config -O3 -Xclang -disable-llvm-passes -S -emit-llvm -x ir "$made/module.bc" \
     -o "$made/module.ll"
 sed -e '/^target datalayout/d' -e "s/^target triple.*/target triple = \"$triple\"/" -e 's/ "target-cpu"="[^"]*"//' \

@@ -1,7 +1,7 @@
 /* Runs the paper's image and prints the registers as its listing does.
-   At the top of the repository, after `rt staticlib a400`, on x86-64:
+   At the top of the repository, after `rt lib` in crates/a400, on x86-64:
 
-     cc -Iinclude -o listing rust/a400/examples/listing.c -Ltarget/staticlib -la400
+     cc -Iinclude -o listing rust/a400/examples/listing.c -Lcrates/a400/out -la400
 */
 #include <stdio.h>
 #include "a400.h"
