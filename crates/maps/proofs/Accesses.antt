@@ -16,7 +16,7 @@ use lib.ListN.{length, get_or, set}
 use borrow.Author.Tests.{ltb-true, ltb-false, lt-ltb, le-ltb}
 use Rattle.word.specs.Words.{bit}
 use Rattle.maps.specs.Pages.{physical_page, protecting, page_register, register_of, index_in, is_register, closed_to, is_open, presence, spot, if_present, place, Reached, number_place}
-use Rattle.maps.specs.Troubles.{number_trouble, number_got, number_tested}
+use Rattle.maps.specs.Troubles.{number_got, number_tested}
 use Rattle.maps.specs.Access.{held}
 use Rattle.maps.specs.Chains.{going_on, chased}
 use Rattle.maps.specs.declared.pages.Map.{Map}
@@ -92,6 +92,7 @@ number_of true (Tested.Ends trouble) reached r = refl
 number_of true Tested.Sound Place.A Reached.at_a = refl
 number_of true Tested.Sound Place.B Reached.at_b = refl
 number_of true Tested.Sound (Place.Memory index) Reached.at_word = refl
+number_of true Tested.Sound (Place.Ends trouble) r = elim r [ ]
 
 pub closed_by : (open? inside : Bool) (page : ℕ) (reached : Place) → Reached reached
     → cond open? (if_present (cond inside Tested.Sound (Tested.Ends (Trouble.Absent page))) reached) (Place.Ends Trouble.Closed)
@@ -102,6 +103,7 @@ closed_by true false page reached r e = never (cc)
 closed_by true true page Place.A Reached.at_a e = never (cc)
 closed_by true true page Place.B Reached.at_b e = never (cc)
 closed_by true true page (Place.Memory index) Reached.at_word e = never (cc)
+closed_by true true page (Place.Ends trouble) r e = elim r [ ]
 
 pub reached_by : (open? : Bool) (present : Tested) (reached p : Place)
     → cond open? (if_present present reached) (Place.Ends Trouble.Closed) ≡ p → Reached p
@@ -109,10 +111,12 @@ pub reached_by : (open? : Bool) (present : Tested) (reached p : Place)
 reached_by false present reached Place.A e Reached.at_a = never (cc)
 reached_by false present reached Place.B e Reached.at_b = never (cc)
 reached_by false present reached (Place.Memory index) e Reached.at_word = never (cc)
+reached_by false present reached (Place.Ends trouble) e r = elim r [ ]
 reached_by true Tested.Sound reached p e r = (refl, refl)
 reached_by true (Tested.Ends trouble) reached Place.A e Reached.at_a = never (cc)
 reached_by true (Tested.Ends trouble) reached Place.B e Reached.at_b = never (cc)
 reached_by true (Tested.Ends trouble) reached (Place.Memory index) e Reached.at_word = never (cc)
+reached_by true (Tested.Ends trouble) reached (Place.Ends other) e r = elim r [ ]
 
 pub absent_by : (open? : Bool) (present : Tested) (reached : Place) (page : ℕ) → Reached reached
     → cond open? (if_present present reached) (Place.Ends Trouble.Closed) ≡ Place.Ends (Trouble.Absent page) → present ≡ Tested.Ends (Trouble.Absent page)
@@ -121,6 +125,7 @@ absent_by true (Tested.Ends trouble) reached page r e = cc
 absent_by true Tested.Sound Place.A page Reached.at_a e = never (cc)
 absent_by true Tested.Sound Place.B page Reached.at_b e = never (cc)
 absent_by true Tested.Sound (Place.Memory index) page Reached.at_word e = never (cc)
+absent_by true Tested.Sound (Place.Ends trouble) page r e = elim r [ ]
 
 absent_page : (inside : Bool) (page other : ℕ) → cond inside Tested.Sound (Tested.Ends (Trouble.Absent page)) ≡ Tested.Ends (Trouble.Absent other)
     → (inside ≡ false) × (page ≡ other)
@@ -167,6 +172,7 @@ pub held_word : (p : Place) (memory : List ℕ) (a b : ℕ) → Reached p → (w
 held_word Place.A memory a b Reached.at_a = (a, refl)
 held_word Place.B memory a b Reached.at_b = (b, refl)
 held_word (Place.Memory index) memory a b Reached.at_word = (get_or memory index 0, refl)
+held_word (Place.Ends trouble) memory a b r = elim r [ ]
 
 pub held_ends : (p : Place) (memory : List ℕ) (a b : ℕ) (trouble : Trouble) → held p memory a b ≡ Got.Ends trouble → p ≡ Place.Ends trouble
 held_ends Place.A memory a b trouble e = never (cc)

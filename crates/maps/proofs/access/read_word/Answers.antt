@@ -3,20 +3,17 @@ use Prim.Native.Nat.{◌<◌}
 use native.Mathlib.Omega.{arith}
 use mathlib.Core.Path.{sym, ◌∙◌}
 use lib.ListN.{length}
-use borrow.Author.Rules.{rules}
 use Rattle.maps.specs.Access.{fetched}
 use Rattle.maps.proofs.Laws.{place_below}
 use Rattle.maps.proofs.access.read_word.Goals as goal
 
--- a place in memory lies below its length
-below : (c : goal.In-Memory-2) → c.in-Memory.index < length c.args.memory.now
-below c = place_below _ _ _ _ _ _ _ (sym c.place_of.ensures ∙ c.in-Memory.is)
-
 pub offset_bounds-memory-index : goal.offset_bounds-memory-index
-offset_bounds-memory-index c = omega (arith, below c.before)
+offset_bounds-memory-index c =
+    let below : c.in-Memory.index < length c.args.memory.now = place_below _ _ _ _ _ _ _ (sym c.place_of.ensures ∙ c.in-Memory.is) in
+    omega arith
 
 pub bounds-memory-index : goal.bounds-memory-index
-bounds-memory-index c = below c.before.before
+bounds-memory-index c = place_below _ _ _ _ _ _ _ (sym c.place_of.ensures ∙ c.in-Memory.is)
 
 pub returns-in-A : goal.returns-in-A
 unfolding fetched

@@ -1,9 +1,8 @@
 -- `access::store_word` meets its contract: an arm for each place; a place in memory lies below the length. Assumes nothing.
-use Prim.Native.Nat.{ℕ, ◌<◌}
+use Prim.Native.Nat.{ℕ}
 use mathlib.Core.Path.{◌≡◌, sym, ◌∙◌}
 use mathlib.Core.List.{List}
 use lib.ListN.{length}
-use borrow.Author.Rules.{rules}
 use Rattle.maps.specs.Pages.{place}
 use Rattle.maps.specs.Access.{put, Stored}
 use Rattle.maps.proofs.Laws.{place_below}
@@ -12,17 +11,13 @@ use Rattle.maps.specs.declared.pages.Purpose.{Purpose}
 use Rattle.maps.specs.declared.pages.Place.{Place}
 use Rattle.maps.proofs.access.store_word.Goals as goal
 
--- a place in memory lies below its length
-below : (c : goal.In-Memory-2) → c.in-Memory.index < length c.args.memory.now
-below c = place_below _ _ _ _ _ _ _ (sym c.place_of.ensures ∙ c.in-Memory.is)
-
 stored : (pages earlier : List ℕ) (wmap : ℕ) (map : Map) (address value : ℕ) {r : Place}
     → place pages wmap map Purpose.Store address (length earlier) ≡ r
     → Stored pages earlier wmap map address value r (put r earlier value)
 stored pages earlier wmap map address value e = record { outcome = sym e; memory = rw e }
 
 pub set_word-requires : goal.set_word-requires
-set_word-requires c = below c.before.before
+set_word-requires c = place_below _ _ _ _ _ _ _ (sym c.place_of.ensures ∙ c.in-Memory.is)
 
 pub returns-in-A : goal.returns-in-A
 returns-in-A c = stored _ _ _ _ _ _ (sym c.place_of.ensures ∙ c.in-A.is)

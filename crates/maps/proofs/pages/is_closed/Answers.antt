@@ -1,5 +1,4 @@
 -- `pages::is_closed` meets its contract: by the test of protection, then an arm for each purpose. Assumes nothing.
-use borrow.Author.Rules.{rules}
 use borrow.Author.Tests.{eq-eqb, ne_eqb}
 use Rattle.maps.proofs.pages.is_closed.Goals as goal
 

@@ -1,6 +1,5 @@
 -- `pages::is_open` meets its contract: by the test for A and B. Assumes nothing.
 use mathlib.Core.Path.{sym, ◌∙◌}
-use borrow.Author.Rules.{rules}
 use Rattle.maps.specs.Pages.{is_open}
 use Rattle.maps.proofs.pages.is_open.Goals as goal
 

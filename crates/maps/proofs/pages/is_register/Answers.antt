@@ -1,5 +1,4 @@
 -- `pages::is_register` meets its contract: an arm for each map. Assumes nothing.
-use borrow.Author.Rules.{rules}
 use Rattle.maps.proofs.pages.is_register.Goals as goal
 
 pub returns-in-Execute : goal.returns-in-Execute

@@ -1,5 +1,4 @@
 -- `pages::map_number` meets its contract: an arm for each map. Assumes nothing.
-use borrow.Author.Rules.{rules}
 use Rattle.maps.proofs.pages.map_number.Goals as goal
 
 pub returns-in-Execute : goal.returns-in-Execute

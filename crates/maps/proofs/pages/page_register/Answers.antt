@@ -1,6 +1,5 @@
 -- `pages::page_register` meets its contract: past the lent registers `get_or` gives its default. Assumes nothing.
 use lib.ListN.{get_or-eq_default}
-use borrow.Author.Rules.{rules}
 use Rattle.maps.proofs.pages.page_register.Goals as goal
 
 pub returns-then-at-pages : goal.returns-then-at-pages
