@@ -11,7 +11,7 @@ use borrow.Fn.Kinds.{ParamKind, ResultKind, Out, ended_of, res_t, Dens}
 use denote.Triple.Clauses.{AtExit}
 use contract.Lifetimes.{Lfts}
 use mathlib.Core.Path.{◌≡◌, refl, sym, ◌∙◌, ap}
-use mathlib.Core.List.{List, []}
+use mathlib.Core.List.{List}
 use Rattle.word.proofs.Tight.{OneResult}
 use Rattle.acts.specs.Record.{with_a}
 use Rattle.acts.specs.Acts.{Act, fin, violate, Result, done, violated, refused, bad_call, exec, troubled, Ends, Gives}

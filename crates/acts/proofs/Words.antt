@@ -15,7 +15,6 @@ use lib.Seq.{drop-cons}
 use borrow.Author.Tests.{eqb-true, le-leb, leb-true}
 use Rattle.word.specs.Words.{weight}
 use Rattle.acts.specs.declared.record.Registers.{Registers}
-use Rattle.acts.specs.declared.record.Taken.{Taken}
 use Rattle.acts.specs.declared.record.Taken.TheVariants.{Record, NoRecord}
 use Rattle.acts.specs.Record.{words_of, is_record, registers_at, registers_of}
 

@@ -6,7 +6,7 @@
 --     interrupted                the interrupt state of a violation
 --     isRecord .. registersOf    the record that words are, if they are one
 -- Assumes nothing.
-use Rattle.std.specs.Prelude.{ℕ, ◌+◌, ◌*◌, Bool, false, cond, not, ◌&&◌, ◌||◌, List, [], ◌∷◌, eqb, leb, ltb, length, get_or}
+use Rattle.std.specs.Prelude.{ℕ, Bool, false, cond, not, ◌&&◌, ◌||◌, List, [], ◌∷◌, eqb, leb, ltb, length, get_or}
 use Rattle.word.specs.Words.{weight}
 use Rattle.word.specs.Sums.{address}
 use Rattle.maps.specs.Pages.{protecting, switched}
