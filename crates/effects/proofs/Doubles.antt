@@ -3,11 +3,11 @@
 --     tested_store            the tests of a store, by its place
 --     stored_both, ends_both  `exec` of two stores, by the tests of their places
 -- Assumes nothing.
-use Prim.Native.Nat.{ℕ, ◌<◌}
-use mathlib.Core.Path.{◌≡◌, refl, sym, ◌∙◌}
+use Prim.Native.Nat.{ℕ}
+use mathlib.Core.Path.{◌≡◌, refl, ◌∙◌}
 use mathlib.Core.Bool.{Bool, true, false, cond}
 use mathlib.Core.List.{List}
-use lib.ListN.{length, set, length-set}
+use lib.ListN.{length, length-set}
 use Rattle.word.specs.Sums.{address}
 use Rattle.maps.specs.Pages.{is_open, presence, spot, if_present, place, Reached}
 use Rattle.maps.proofs.Laws.{place_by_tests, spot_reached}
@@ -37,6 +37,7 @@ tests true (Tested.Ends t) p x r = refl
 tests true Tested.Sound Place.A x Reached.at_a = refl
 tests true Tested.Sound Place.B x Reached.at_b = refl
 tests true Tested.Sound (Place.Memory i) x Reached.at_word = refl
+tests true Tested.Sound (Place.Ends t) x r = elim r [ ]
 
 -- the tests of a store, by its place
 tested_store : (pages : List ℕ) (at : ℕ) (k : Act) (r : Registers) (m : List ℕ)

@@ -4,13 +4,12 @@
 --     stored, addressed   what is stored, and where
 --     storable, way_act    the accesses of each way
 -- Which instruction goes which way is in `Rules` of the crate `rules`. Assumes nothing.
-use Rattle.std.specs.Prelude.{ℕ, ◌+◌, ◌%◌, Bool, true, false, not, ◌||◌, eqb}
+use Rattle.std.specs.Prelude.{ℕ, ◌+◌, true, false, not, ◌||◌, eqb}
 use Rattle.std.specs.Int.Bits.{bit_and, bit_or, bit_xor}
 use Rattle.word.specs.Words.{weight}
 use Rattle.word.specs.Sums.{sum, incremented, address}
 use Rattle.word.specs.Products.{multiplied, divided}
 use Rattle.word.specs.declared.sums.Sum.{Sum}
-use Rattle.word.specs.declared.products.Product.{Product}
 use Rattle.word.specs.declared.products.Quotient.{Quotient}
 use Rattle.maps.specs.declared.pages.Map.{Map}
 use Rattle.maps.specs.declared.pages.Purpose.{Purpose}

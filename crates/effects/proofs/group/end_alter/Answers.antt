@@ -10,9 +10,7 @@ use Rattle.acts.specs.Record.{with_e, with_register, ahead}
 use Rattle.effects.specs.Ways.{flagged}
 use Rattle.effects.specs.Group.{alter_ended, alter_skips}
 use Rattle.acts.specs.declared.record.Registers.{Registers}
-use borrow.Author.Rules.{rules}
-use Rattle.effects.proofs.group.end_alter.Statement.{statement}
-use Rattle.effects.proofs.group.end_alter.Tie as tie
+use Rattle.effects.proofs.group.end_alter.Goals as goal
 
 with_ina : (i : AlterSkip) (w : ℕ) (e : Bool) (r : Registers) {f g s : Registers} {t : Sum} {k : Bool} → i.ina ≡ true
     → t ≡ incremented w → k ≡ alter_skips i r.e w t.word → f ≡ flagged t (with_e r e)
@@ -26,14 +24,8 @@ without : (i : AlterSkip) (w : ℕ) (e : Bool) (r : Registers) {g s : Registers}
 unfolding alter_ended
 without i w e r ina skip put gone = rw (gone, put, skip, ina) refl
 
-returns : tie.Need-returns
-returns c = with_ina _ _ _ _ c.before.before.before.before.before.if1.true c.before.before.before.before.increment.ensures c.before.before.before.is-met.ensures c.before.before.set-flags.ensures c.before.set-register.ensures c.go-skipping.ensures
+pub returns-then-i : goal.returns-then-i
+returns-then-i c = with_ina _ _ _ _ c.if-i.true c.increment-t.ensures c.is_met-skip.ensures c.set_flags.ensures c.set_register.ensures c.go_skipping.ensures
 
-returns-2 : tie.Need-returns-2
-returns-2 c = without _ _ _ _ c.before.before.before.if1.false c.before.before.is-met2.ensures c.before.set-register2.ensures c.go-skipping2.ensures
-
-pub end_alter_spec : {M : Type 1} → statement M
-end_alter_spec =
-    tie.close
-    (tie.spec (λ c κs. search rules) (λ c κs. search rules) (λ c κs. search rules) (λ c κs. search rules)
-    (λ c κs. search rules) returns (λ c κs. search rules) (λ c κs. search rules) (λ c κs. search rules) returns-2)
+pub returns : goal.returns
+returns c = without _ _ _ _ c.if-i.false c.is_met-skip-2.ensures c.set_register-2.ensures c.go_skipping-2.ensures
