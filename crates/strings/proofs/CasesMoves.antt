@@ -1,9 +1,9 @@
 -- C12 of 01 on the definitions, by computation: a word that a move stored is read again. Assumes nothing.
 use Rattle.std.proofs.Common.{◌≡◌, ℕ, List, [], ◌∷◌, ◌++◌, replicate, refl}
 use Rattle.maps.specs.declared.pages.Map.{Map}
-use Rattle.acts.specs.Record.{with_a, with_b, with_p, fresh, ahead}
+use Rattle.acts.specs.Record.{with_a, with_b, with_p, fresh}
 use Rattle.acts.specs.Acts.{fin, done, exec}
-use Rattle.strings.specs.Strings.{along, touches, opens_all, present_all, moving, moved, past_ranges}
+use Rattle.strings.specs.Strings.{touches, opens_all, present_all, moving, moved, past_ranges}
 use Rattle.acts.specs.declared.record.Registers.{Registers}
 use Rattle.strings.specs.declared.moves.Move.{Move}
 use Rattle.strings.specs.declared.strings.Element.{Element}

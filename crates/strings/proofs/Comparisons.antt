@@ -2,7 +2,7 @@
 --     turn               how the comparison goes on after a pair
 --     ordered, stopped   `exec` of a comparison by what one pair gave
 -- Assumes nothing.
-use Rattle.std.proofs.Common.{◌≡◌, ℕ, zero, suc, ◌-◌, ◌≤◌, List, refl, arith}
+use Rattle.std.proofs.Common.{◌≡◌, ℕ, zero, suc, ◌-◌, ◌≤◌, List, arith}
 use Rattle.word.specs.declared.orders.Order.{Order}
 use Rattle.acts.specs.Acts.{Act, fin, exec, troubled}
 use Rattle.strings.specs.Strings.{along, on_order, pairing, compared, comparing, Compares}

@@ -4,7 +4,7 @@
 --     Placed, told, placed_on              the place of an element, and of the next on its page
 --     Moves, moves_inside, moves_stretch       how far a move has come; a stretch of it in memory; a stretch on
 -- Assumes nothing.
-use Rattle.std.proofs.Common.{◌≡◌, ℕ, zero, suc, ◌+◌, ◌-◌, ◌*◌, ◌/◌, ◌%◌, ◌<◌, ◌≤◌, List, length, get_or, set, sym, refl, ap, ◌∙◌, arith, length-set, get_or-set_same}
+use Rattle.std.proofs.Common.{◌≡◌, ℕ, zero, suc, ◌+◌, ◌-◌, ◌*◌, ◌/◌, ◌%◌, ◌<◌, ◌≤◌, List, length, get_or, set, refl, ap, ◌∙◌, arith, length-set, get_or-set_same}
 use Rattle.maps.specs.Pages.{physical_page, page_register, register_of, index_in, place}
 use Rattle.maps.proofs.Laws.{place_below}
 use Rattle.maps.specs.declared.pages.Map.{Map}
@@ -16,7 +16,7 @@ use Rattle.strings.specs.Copies.{per_page, place_in, index_of, places_in, Stretc
 use Rattle.acts.specs.declared.record.Registers.{Registers}
 use Rattle.strings.specs.declared.strings.Element.{Element}
 use Rattle.strings.specs.declared.strings.Element.TheVariants.{Word, Byte}
-use Rattle.strings.proofs.Ranges.{never, InMemory, Reaches, reaches_on, lead, leads, move_one}
+use Rattle.strings.proofs.Ranges.{Reaches, reaches_on, lead, leads, move_one}
 use Rattle.strings.proofs.Stretches.{along_on, page_on}
 
 carried_length : (u : Element) (i j : ℕ) (m : List ℕ) → length (carried u i j m) ≡ length m

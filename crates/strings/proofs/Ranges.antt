@@ -5,16 +5,16 @@
 --     passes                      a move goes on where its tests succeed
 --     lead, move_one              the word that an access reaches; one element moved
 -- Assumes nothing.
-use Rattle.std.proofs.Common.{◌≡◌, ℕ, zero, suc, ◌+◌, ◌-◌, ◌*◌, ◌/◌, ◌%◌, ◌<◌, Bool, true, false, cond, ◌&&◌, ◌||◌, List, length, get_or, set, sym, refl, ◌∙◌, arith}
+use Rattle.std.proofs.Common.{◌≡◌, ℕ, zero, suc, ◌+◌, ◌-◌, ◌*◌, ◌/◌, ◌%◌, ◌<◌, Bool, true, false, cond, ◌&&◌, ◌||◌, List, length, sym, refl, ◌∙◌, arith}
 use Rattle.maps.specs.Pages.{register_of, index_in, is_register, is_open, presence, spot, place}
 use Rattle.maps.specs.Access.{fetched}
-use Rattle.maps.proofs.Laws.{place_reached, place_below, open_both}
+use Rattle.maps.proofs.Laws.{place_reached, open_both}
 use Rattle.maps.specs.declared.pages.Map.{Map}
 use Rattle.maps.specs.declared.pages.Purpose.{Purpose}
 use Rattle.maps.specs.declared.pages.Place.{Place}
 use Rattle.maps.specs.declared.troubles.Trouble.{Trouble}
 use Rattle.maps.specs.declared.troubles.Tested.{Tested}
-use Rattle.acts.specs.Acts.{Act, Result, fin, stop, done, violated, refused, on_open, on_tested, exec, Ends}
+use Rattle.acts.specs.Acts.{Act, Result, fin, stop, done, on_open, on_tested, exec, Ends}
 use Rattle.strings.specs.Strings.{word_at, along, purpose_of, touches, opens_all, present_all, moving, touched, all_open, all_present, tested}
 use Rattle.strings.specs.Copies.{place_in, carried}
 use Rattle.acts.specs.declared.record.Registers.{Registers}

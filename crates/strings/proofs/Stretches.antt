@@ -3,7 +3,7 @@
 --     touches_past, opens_past, presents_past    what is left of a range after a stretch
 --     present_below               on a page, what lies below a word that is present is present
 -- Assumes nothing.
-use Rattle.std.proofs.Common.{◌≡◌, ℕ, zero, suc, ◌+◌, ◌-◌, ◌*◌, ◌/◌, ◌%◌, ◌<◌, ◌≤◌, Bool, true, false, cond, ◌||◌, ltb, ◌⊎◌, List, length, sym, refl, ap, ◌∙◌, inl, inr, ⊎_elim, arith, ltb-false, ltb-true, lt-ltb}
+use Rattle.std.proofs.Common.{◌≡◌, ℕ, zero, suc, ◌+◌, ◌-◌, ◌/◌, ◌%◌, ◌<◌, ◌≤◌, Bool, true, false, cond, ltb, ◌⊎◌, List, length, sym, refl, ap, ◌∙◌, inl, inr, arith, ltb-false, ltb-true}
 use Rattle.maps.specs.Pages.{physical_page, register_of, page_register, index_in, is_register, is_open, presence}
 use Rattle.maps.proofs.Laws.{open_by_page}
 use Rattle.maps.specs.declared.pages.Map.{Map}
@@ -16,7 +16,7 @@ use Rattle.strings.specs.Copies.{per_page, Stretch}
 use Rattle.acts.specs.declared.record.Registers.{Registers}
 use Rattle.strings.specs.declared.strings.Element.{Element}
 use Rattle.strings.specs.declared.strings.Element.TheVariants.{Word, Byte}
-use Rattle.strings.proofs.Ranges.{never, or_false, opens_on, presents_on}
+use Rattle.strings.proofs.Ranges.{or_false, opens_on, presents_on}
 
 pub along_on : (u : Element) (at j : ℕ) → along u (along u at 1) j ≡ along u at (suc j)
 along_on Word at j = omega arith

@@ -1,6 +1,6 @@
 -- Whether a range touches A or B, told from its two ends: it begins there, or it goes past the last address and so comes round.
 -- Assumes nothing.
-use Rattle.std.proofs.Common.{◌≡◌, ℕ, zero, suc, ◌+◌, ◌/◌, ◌%◌, ◌<◌, ◌≤◌, Bool, true, false, not, ◌&&◌, ◌||◌, eqb, ltb, sym, refl, ◌∙◌, arith, ltb-false, ltb-true, le-ltb, lt-ltb, eq-eqb, ne_eqb, eqb-true}
+use Rattle.std.proofs.Common.{◌≡◌, ℕ, zero, suc, ◌+◌, ◌/◌, ◌%◌, ◌<◌, ◌≤◌, Bool, true, false, not, ◌&&◌, ◌||◌, eqb, ltb, sym, refl, arith, ltb-false, ltb-true, le-ltb, lt-ltb, ne_eqb}
 use Rattle.maps.specs.Pages.{is_register}
 use Rattle.maps.specs.declared.pages.Map.{Map}
 use Rattle.strings.specs.Strings.{word_at, along, touches}

@@ -7,7 +7,7 @@
 --     Compares, concluded                    what functions promise of one pair, and of what a comparison found
 --     byte_loaded, byte_stored, move_act, compare_act, mask_act    the instructions
 -- Assumes nothing.
-use Rattle.std.specs.Prelude.{◌≡◌, ℕ, zero, suc, ◌+◌, ◌/◌, ◌%◌, Bool, true, false, cond, not, ◌||◌, List, [], ◌==◌, bit_or}
+use Rattle.std.specs.Prelude.{◌≡◌, ℕ, zero, suc, ◌+◌, ◌%◌, Bool, false, cond, not, ◌||◌, List, [], ◌==◌, bit_or}
 use Rattle.word.specs.Words.{bit, weight, byte_of, with_byte, bits_cleared, every_bit_set}
 use Rattle.word.specs.Sums.{address}
 use Rattle.word.specs.Orders.{order_of_words, order_of_bytes}
