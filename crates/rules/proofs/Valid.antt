@@ -4,7 +4,7 @@
 --     After, step_sound                           so of the registers after a step
 --     step_valid                                  which are valid
 -- A good call is the machine's. Assumes nothing.
-use Prim.Native.Nat.{ℕ, zero, suc, ◌<◌, ◌+◌, ◌*◌, ◌/◌, ◌%◌}
+use Prim.Native.Nat.{ℕ, zero, suc, ◌<◌, ◌+◌, ◌*◌, ◌%◌}
 use native.Mathlib.Omega.{arith}
 use mathlib.Core.Path.{◌≡◌, refl, sym}
 use mathlib.Core.Bool.{Bool, true, false, cond, not, ◌&&◌, ◌||◌}
@@ -24,7 +24,7 @@ use Rattle.code.specs.Instructions.{reading}
 use Rattle.acts.specs.Record.{with_a, with_b, with_p, with_trap, with_lights, in_register, with_register, in_index, with_index, valid, interrupted, ahead}
 use Rattle.acts.specs.Replies.{number}
 use Rattle.acts.specs.Acts.{Act, fin, stop, violate, load, go_on}
-use Rattle.acts.specs.Acts.{Result, done, violated, refused, exec, answer}
+use Rattle.acts.specs.Acts.{Result, exec, answer}
 use Rattle.effects.specs.Ways.{flagged, quotient, taken, way_act}
 use Rattle.effects.specs.Group.{shift_rotated, alter_ended, alter_skipped, long_rotated, copied_to_index, copied_from_index, exchanged, index_stepped, picked, panel_act, is_halt, io_act}
 use Rattle.strings.specs.Strings.{word_at, along, value_of, order_of, comparing}

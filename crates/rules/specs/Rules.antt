@@ -9,7 +9,6 @@
 use Rattle.std.specs.Prelude.{ℕ, ◌+◌, ◌*◌, ◌/◌, ◌%◌, Bool, true, false, cond, ◌&&◌, eqb}
 use Rattle.word.specs.Words.{bit, weight}
 use Rattle.word.specs.Sums.{incremented, decremented, address}
-use Rattle.word.specs.declared.sums.Sum.{Sum}
 use Rattle.maps.specs.Pages.{protecting}
 use Rattle.maps.specs.declared.pages.Map.{Map}
 use Rattle.maps.specs.declared.pages.Map.TheVariants.{Execute, Data1, Data2}
