@@ -3,7 +3,7 @@
 --     with_ina, no_ina      alter/skip from the word and E after their alterations
 -- Assumes nothing.
 use Prim.Native.Nat.{ℕ, ◌+◌}
-use mathlib.Core.Path.{◌≡◌, refl}
+use mathlib.Core.Path.{◌≡◌}
 use mathlib.Core.Bool.{Bool, true, false, not, ◌&&◌}
 use Rattle.word.specs.Words.{bit, weight}
 use Rattle.word.specs.Sums.{incremented}

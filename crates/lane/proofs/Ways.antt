@@ -11,7 +11,7 @@ use Prim.Native.Nat.{ℕ, ◌+◌, ◌/◌, ◌%◌, ◌<◌, ◌≤◌}
 use native.Mathlib.Omega.{arith}
 use native.Mathlib.Nat.{mod-eq_of_lt}
 use mathlib.Core.Path.{◌≡◌, refl, sym, ap, ◌∙◌}
-use mathlib.Core.Bool.{Bool, true, false, cond, not}
+use mathlib.Core.Bool.{Bool, true, false, not}
 use mathlib.Core.List.{List}
 use lib.Dec.{eqb, leb}
 use lib.ListN.{length, set}
@@ -28,12 +28,12 @@ use Rattle.maps.specs.declared.pages.Place.{Place}
 use Rattle.maps.specs.declared.troubles.Got.{Got}
 use Rattle.code.proofs.Digits.{last_arm}
 use Rattle.code.specs.Instructions.{operation_at, memory_reference, reading}
-use Rattle.acts.specs.Record.{with_p, ahead}
-use Rattle.acts.specs.Acts.{Act, fin, load, save, follow, go_on, done, exec}
+use Rattle.acts.specs.Record.{with_p}
+use Rattle.acts.specs.Acts.{Act, fin, load, save, go_on, done, exec}
 use Rattle.acts.specs.declared.record.Registers.{Registers}
 use Rattle.effects.specs.Ways.{taken, way_act}
 use Rattle.effects.specs.declared.ways.Taking.{Taking}
-use Rattle.effects.specs.declared.ways.Way.TheVariants.{StepAndSkip, Jump}
+use Rattle.effects.specs.declared.ways.Way.TheVariants.{StepAndSkip}
 use Rattle.rules.specs.Rules.{memory_way, memory_word, rule, step_act}
 use Rattle.lane.specs.Lane.{Tried, Led, put_at, carried}
 use Rattle.lane.specs.Asking.{Finishes}
