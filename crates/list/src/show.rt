@@ -1,12 +1,15 @@
 // Standard input run as an image, and its listing written out.
 use crate::line::list_image;
+use octal::input::read_full;
+use std::io;
+use std::io::Input;
 
 // A byte more than 8 pages is asked for, so that a longer input is known by its length.
-pub fn list_input() {
+pub fn list_input(rt: &(impl Input + Print)) -> io::Result<()> {
     let mut bytes = [0u8; 16385];
-    let n = io::read_full(0, &mut bytes);
+    let n = read_full(&mut rt.reader(), &mut bytes)?;
     let text = list_image(&bytes[..n]);
     let len = text.len;
     let out = text.bytes;
-    io::write_all(1, &out[..len]);
+    rt.write_all(&out[..len])
 }

@@ -44,7 +44,6 @@ pub(crate) fn with_bytes(t: Text, l: &[u8]) -> Text
 pub(crate) fn with_decimal(t: Text, n: u32) -> Text
     ensures { result ≡ puts t (decimal_digits n) }
 {
-    let mut digits = [0u8; 20];
-    let k = io::decimal(n as u64, &mut digits);
-    with_bytes(t, &digits[..k])
+    let front = if n < 10 { t } else { with_decimal(t, n / 10) };
+    with_byte(front, b'0' + (n % 10) as u8)
 }

@@ -1,6 +1,8 @@
 // The listing of the image on standard input.
 #![tactic(auto)]
 
-fn main() {
-    list::show::list_input();
+use std::io;
+
+fn main(rt: HostRuntime) -> io::Result<()> {
+    list::show::list_input(&rt)
 }

@@ -5,6 +5,8 @@
 // The sum is 123456 with overflow and no carry. Steps: 3, then 66 of ISZ and 65 of JMP 5, then JMP 1234.
 #![tactic(auto)]
 
-fn main() {
-    list::show::list_input();
+use std::io;
+
+fn main(rt: HostRuntime) -> io::Result<()> {
+    list::show::list_input(&rt)
 }

@@ -1,6 +1,8 @@
 // The listing of an input that is not whole pages: a page less its last byte.
 #![tactic(auto)]
 
-fn main() {
-    list::show::list_input();
+use std::io;
+
+fn main(rt: HostRuntime) -> io::Result<()> {
+    list::show::list_input(&rt)
 }

@@ -1,8 +1,13 @@
-// A word as six octal digits, and a bit as one: their bytes, and the bytes on standard output.
+// A word as six octal digits, and a bit as one: their bytes, and the bytes on standard output; and standard input by whole
+// buffers.
 #![tactic(auto)]
+
+pub mod input;
 
 ghost use Rattle.std.specs.Prelude.{◌≡◌};
 ghost use Rattle.octal.specs.Digits.{octal_digits, bit_digit};
+
+use std::io;
 
 pub fn word_digits(w: u16) -> [u8; 6]
     ensures { result ≡ octal_digits w }
@@ -23,12 +28,12 @@ pub fn bit_digit(b: bool) -> u8
     if b { b'1' } else { b'0' }
 }
 
-pub fn print_word(w: u16) {
+pub fn print_word(rt: &impl Print, w: u16) -> io::Result<()> {
     let digits = word_digits(w);
-    io::write_all(1, &digits);
+    rt.write_all(&digits)
 }
 
-pub fn print_bit(b: bool) {
+pub fn print_bit(rt: &impl Print, b: bool) -> io::Result<()> {
     let digits = [bit_digit(b)];
-    io::write_all(1, &digits);
+    rt.write_all(&digits)
 }

@@ -3,40 +3,44 @@
 // word of memory as given. The last line is the same move with nothing in its way.
 use crate::state::{plain, program, put, word};
 use acts::replies::number_of;
+use std::io;
 
 fn pattern(memory: &mut [u16]) {
-    let mut i: u16 = 0;
-    while i < 3072 {
+    for i in 0..3072 {
         put(memory, i, i);
-        i += 1;
     }
     program(memory, 0o105777, 0o10, 0);
     put(memory, 0o10, 1500);
 }
 
 fn is_same(memory: &[u16], before: &[u16]) -> bool {
-    let mut i: u16 = 0;
-    while i < 3072 {
+    for i in 0..3072 {
         if word(memory, i) != word(before, i) {
             return false;
         }
-        i += 1;
     }
     true
 }
 
-fn print(label: &[u8], reply: u32, same: bool) {
-    io::write_all(1, label);
-    io::print_decimal(1, reply as u64);
+fn print(rt: &impl Print, label: &[u8], reply: u32, same: bool) -> io::Result<()> {
+    rt.write_all(label)?;
     if same {
-        io::write_all(1, b" unchanged\n");
+        println!(rt; "{reply} unchanged")
     } else {
-        io::write_all(1, b" changed\n");
+        println!(rt; "{reply} changed")
     }
 }
 
 // Page 1 has `first` in its page register, page 2 `second`, page 31 names page 2.
-fn moved(label: &[u8], wmap: u16, first: u16, second: u16, a: u16, b: u16) {
+fn moved(
+    rt: &impl Print,
+    label: &[u8],
+    wmap: u16,
+    first: u16,
+    second: u16,
+    a: u16,
+    b: u16,
+) -> io::Result<()> {
     let mut pages: [u16; 1024] = [0; 1024];
     let mut memory: [u16; 3072] = [0; 3072];
     let mut before: [u16; 3072] = [0; 3072];
@@ -52,28 +56,53 @@ fn moved(label: &[u8], wmap: u16, first: u16, second: u16, a: u16, b: u16) {
     r.b = b;
     let s = machine::step::step(r, &mut pages, &mut memory);
     let reply = s.reply;
-    print(label, number_of(reply), is_same(&memory, &before));
+    print(rt, label, number_of(reply), is_same(&memory, &before))
 }
 
-pub(crate) fn run() {
+pub(crate) fn run(rt: &impl Print) -> io::Result<()> {
     let on = 0o100000;
     let low = 0o100;
     let high = 0o2020;
     let last = 0o76020;
-    moved(b"into a store-protected page ", on, 1, 0o040002, low, high);
-    moved(b"out of a read-protected page ", on, 1, 0o100002, high, low);
-    moved(b"into an absent page ", 0, 1, 5, low, high);
-    moved(b"out of an absent page ", 0, 1, 5, high, low);
-    moved(b"into A and B ", 0, 1, 2, low, last);
-    moved(b"out of A and B ", 0, 1, 2, last, low);
-    moved(b"absent first, then protected ", on, 5, 0o040002, low, high);
     moved(
+        rt,
+        b"into a store-protected page ",
+        on,
+        1,
+        0o040002,
+        low,
+        high,
+    )?;
+    moved(
+        rt,
+        b"out of a read-protected page ",
+        on,
+        1,
+        0o100002,
+        high,
+        low,
+    )?;
+    moved(rt, b"into an absent page ", 0, 1, 5, low, high)?;
+    moved(rt, b"out of an absent page ", 0, 1, 5, high, low)?;
+    moved(rt, b"into A and B ", 0, 1, 2, low, last)?;
+    moved(rt, b"out of A and B ", 0, 1, 2, last, low)?;
+    moved(
+        rt,
+        b"absent first, then protected ",
+        on,
+        5,
+        0o040002,
+        low,
+        high,
+    )?;
+    moved(
+        rt,
         b"protected first, then A and B ",
         on,
         0o100001,
         2,
         high,
         last,
-    );
-    moved(b"protection off ", 0, 1, 0o140002, low, high);
+    )?;
+    moved(rt, b"protection off ", 0, 1, 0o140002, low, high)
 }

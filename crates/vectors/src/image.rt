@@ -31,28 +31,22 @@ fn initial(at: u16) -> u16 {
 }
 
 pub(crate) fn reset(image: &mut [u16]) {
-    let mut i: u16 = 0;
-    while i < IMAGE_END {
+    for i in 0..IMAGE_END {
         put(image, i, initial(i));
-        i += 1;
     }
 }
 
 // Each word from 1 to n asks for the one before it.
 pub(crate) fn link(image: &mut [u16], n: u16) {
-    let mut i: u16 = 0;
-    while i < n {
+    for i in 0..n {
         put(image, i + 1, add(0o100000, i).word);
-        i += 1;
     }
 }
 
 // The part of an image from a place on.
 pub(crate) fn copy(image: &[u16], at: u16, words: &mut [u16], n: u16) {
-    let mut i: u16 = 0;
-    while i < n {
+    for i in 0..n {
         put(words, i, word(image, add(at, i).word));
-        i += 1;
     }
 }
 

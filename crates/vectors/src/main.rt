@@ -10,8 +10,10 @@ mod show;
 mod state;
 mod text;
 
-fn main() {
-    overlap::run();
-    all_or_nothing::run();
-    text::run_all();
+use std::io;
+
+fn main(rt: HostRuntime) -> io::Result<()> {
+    overlap::run(&rt)?;
+    all_or_nothing::run(&rt)?;
+    text::run_all(&rt)
 }

@@ -4,6 +4,7 @@
 // P three on. stdout has `ok` in each line.
 use crate::state::{byte, differs, plain, program, put, word};
 use acts::replies::{Stepped, number_of};
+use std::io;
 use word::sums::add;
 
 const COUNT: u16 = 0o10;
@@ -18,10 +19,8 @@ fn pattern(i: u16) -> u16 {
 }
 
 fn fill(memory: &mut [u16], first: u16, words: u16) {
-    let mut i: u16 = 0;
-    while i < words {
+    for i in 0..words {
         put(memory, plus(first, i), pattern(i));
-        i += 1;
     }
 }
 
@@ -48,10 +47,8 @@ fn wrong_registers(s: Stepped, from: u16, n: u16) -> u16 {
 
 fn wrong_words(memory: &[u16], from: u16, n: u16) -> u16 {
     let mut wrong = differs(word(memory, plus(from, plus(n, 1))), pattern(plus(n, 1)));
-    let mut i: u16 = 0;
-    while i < n {
+    for i in 0..n {
         wrong = plus(wrong, differs(word(memory, plus(from, i)), pattern(0)));
-        i += 1;
     }
     plus(wrong, differs(word(memory, plus(from, n)), pattern(0)))
 }
@@ -66,53 +63,46 @@ fn wrong_bytes(memory: &[u16], from: u16, n: u16) -> u16 {
         byte(memory, plus(from, plus(n, 1))),
         pattern_byte(plus(n, 1)),
     );
-    let mut i: u16 = 0;
-    while i < n {
+    for i in 0..n {
         wrong = plus(wrong, differs(byte(memory, plus(from, i)), 3));
-        i += 1;
     }
     plus(wrong, differs(byte(memory, plus(from, n)), 3))
 }
 
-fn print(label: &[u8], n: u16, wrong: u16) {
-    io::write_all(1, label);
-    io::print_decimal(1, n as u64);
+fn print(rt: &impl Print, label: &[u8], n: u16, wrong: u16) -> io::Result<()> {
+    rt.write_all(label)?;
     if wrong == 0 {
-        io::write_all(1, b" ok\n");
+        println!(rt; "{n} ok")
     } else {
-        io::write_all(1, b" wrong ");
-        io::print_decimal(1, wrong as u64);
-        io::write_all(1, b"\n");
+        println!(rt; "{n} wrong {wrong}")
     }
 }
 
-fn words(label: &[u8], from: u16, n: u16) {
+fn words(rt: &impl Print, label: &[u8], from: u16, n: u16) -> io::Result<()> {
     let mut memory: [u16; 3072] = [0; 3072];
     fill(&mut memory, from, 50);
     let s = moved(0o105777, from, n, &mut memory);
     let wrong = plus(wrong_registers(s, from, n), wrong_words(&memory, from, n));
-    print(label, n, wrong);
+    print(rt, label, n, wrong)
 }
 
-fn bytes(from: u16, n: u16) {
+fn bytes(rt: &impl Print, from: u16, n: u16) -> io::Result<()> {
     let mut memory: [u16; 3072] = [0; 3072];
     fill(&mut memory, from / 2, 20);
     let s = moved(0o105765, from, n, &mut memory);
     let wrong = plus(wrong_registers(s, from, n), wrong_bytes(&memory, from, n));
-    print(b"overlap of bytes ", n, wrong);
+    print(rt, b"overlap of bytes ", n, wrong)
 }
 
-pub(crate) fn run() {
-    let mut n: u16 = 1;
-    while n <= 40 {
-        words(b"overlap ", 0o100, n);
-        n += 1;
+pub(crate) fn run(rt: &impl Print) -> io::Result<()> {
+    for n in 1..=40 {
+        words(rt, b"overlap ", 0o100, n)?;
     }
-    words(b"overlap across a page end ", 0o1760, 30);
-    bytes(0o200, 1);
-    bytes(0o200, 2);
-    bytes(0o200, 3);
-    bytes(0o200, 16);
-    bytes(0o200, 33);
-    bytes(0o3760, 30);
+    words(rt, b"overlap across a page end ", 0o1760, 30)?;
+    bytes(rt, 0o200, 1)?;
+    bytes(rt, 0o200, 2)?;
+    bytes(rt, 0o200, 3)?;
+    bytes(rt, 0o200, 16)?;
+    bytes(rt, 0o200, 33)?;
+    bytes(rt, 0o3760, 30)
 }

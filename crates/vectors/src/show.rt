@@ -4,61 +4,69 @@ use crate::state::word;
 use acts::record::Registers;
 use acts::replies::{Ran, Stepped, number_of};
 use octal::{print_bit, print_word};
+use std::io;
 use word::sums::add;
 
-fn space(w: u16) {
-    io::write_all(1, b" ");
-    print_word(w);
+fn space(rt: &impl Print, w: u16) -> io::Result<()> {
+    rt.write_all(b" ")?;
+    print_word(rt, w)
 }
 
-fn print_registers(r: Registers) {
-    space(r.p);
-    space(r.a);
-    space(r.b);
-    space(r.x);
-    space(r.y);
-    io::write_all(1, b" ");
-    print_bit(r.e);
-    io::write_all(1, b" ");
-    print_bit(r.o);
-    space(r.wmap);
-    space(r.imap);
-    space(r.violation);
-    space(r.interrupt);
-    space(r.trap);
-    space(r.lights as u16);
+fn space_bit(rt: &impl Print, b: bool) -> io::Result<()> {
+    rt.write_all(b" ")?;
+    print_bit(rt, b)
 }
 
-pub(crate) fn print_stepped(s: Stepped) {
-    let reply = s.reply;
-    io::write_all(1, b" ");
-    io::print_decimal(1, number_of(reply) as u64);
-    print_registers(s.registers);
+fn print_registers(rt: &impl Print, r: Registers) -> io::Result<()> {
+    space(rt, r.p)?;
+    space(rt, r.a)?;
+    space(rt, r.b)?;
+    space(rt, r.x)?;
+    space(rt, r.y)?;
+    space_bit(rt, r.e)?;
+    space_bit(rt, r.o)?;
+    space(rt, r.wmap)?;
+    space(rt, r.imap)?;
+    space(rt, r.violation)?;
+    space(rt, r.interrupt)?;
+    space(rt, r.trap)?;
+    space(rt, r.lights as u16)
 }
 
-pub(crate) fn print_ran(s: Ran) {
-    let reply = s.reply;
-    io::write_all(1, b" ");
-    io::print_decimal(1, number_of(reply) as u64);
-    io::write_all(1, b" after ");
-    io::print_decimal(1, s.count as u64);
-    print_registers(s.registers);
+pub(crate) fn print_stepped(rt: &impl Print, s: Stepped) -> io::Result<()> {
+    let reply = number_of(s.reply);
+    print!(rt; " {reply}")?;
+    print_registers(rt, s.registers)
 }
 
-fn print_change(label: &[u8], i: u16, is: u16, was: u16) {
+pub(crate) fn print_ran(rt: &impl Print, s: Ran) -> io::Result<()> {
+    let reply = number_of(s.reply);
+    let count = s.count;
+    print!(rt; " {reply} after {count}")?;
+    print_registers(rt, s.registers)
+}
+
+fn print_change(rt: &impl Print, label: &[u8], i: u16, is: u16, was: u16) -> io::Result<()> {
     if is != was {
-        io::write_all(1, label);
-        print_word(i);
-        io::write_all(1, b"=");
-        print_word(is);
+        rt.write_all(label)?;
+        print_word(rt, i)?;
+        rt.write_all(b"=")?;
+        print_word(rt, is)?;
     }
+    Ok(())
 }
 
 // What differs from the image, from a place of it on.
-pub(crate) fn print_changes(label: &[u8], words: &[u16], image: &[u16], at: u16, n: u16) {
-    let mut i: u16 = 0;
-    while i < n {
-        print_change(label, i, word(words, i), word(image, add(at, i).word));
-        i += 1;
+pub(crate) fn print_changes(
+    rt: &impl Print,
+    label: &[u8],
+    words: &[u16],
+    image: &[u16],
+    at: u16,
+    n: u16,
+) -> io::Result<()> {
+    for i in 0..n {
+        print_change(rt, label, i, word(words, i), word(image, add(at, i).word))?;
     }
+    Ok(())
 }

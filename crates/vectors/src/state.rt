@@ -22,10 +22,8 @@ pub(crate) fn byte(words: &[u16], at: u16) -> u16 {
 
 // Map 0 names page n for page n.
 pub(crate) fn plain(pages: &mut [u16]) {
-    let mut n: u16 = 0;
-    while n < 32 {
+    for n in 0..32 {
         put(pages, n, n);
-        n += 1;
     }
 }
 

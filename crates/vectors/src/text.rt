@@ -6,110 +6,131 @@ use crate::line::{
 use crate::show::{print_changes, print_ran, print_stepped};
 use crate::state::word;
 use acts::record::Registers;
+use octal::input::read_full;
+use std::io;
+use std::io::Input;
 
-fn perform(l: Line, r: Registers, pages: &mut [u16], memory: &mut [u16]) {
+fn perform(
+    rt: &impl Print,
+    l: Line,
+    r: Registers,
+    pages: &mut [u16],
+    memory: &mut [u16],
+) -> io::Result<()> {
     if is_step(l) {
-        print_stepped(machine::step::step(r, pages, memory));
+        print_stepped(rt, machine::step::step(r, pages, memory))
     } else if is_run(l) {
-        print_ran(machine::run::run(l.budget, r, pages, memory));
+        print_ran(rt, machine::run::run(l.budget, r, pages, memory))
     } else {
-        io::write_all(1, b" not a vector");
+        rt.write_all(b" not a vector")
     }
 }
 
-fn lend(l: Line, image: &[u16], pages: &mut [u16], memory: &mut [u16]) {
+fn lend(
+    rt: &impl Print,
+    l: Line,
+    image: &[u16],
+    pages: &mut [u16],
+    memory: &mut [u16],
+) -> io::Result<()> {
     let named = word(image, LEND_AT + 1) as usize;
     let lent = word(image, LEND_AT) as usize;
     let r = registers(image);
     if named <= pages.len() {
         if lent <= memory.len() {
-            perform(l, r, &mut pages[..named], &mut memory[..lent]);
+            perform(rt, l, r, &mut pages[..named], &mut memory[..lent])?;
         }
     }
+    Ok(())
 }
 
-fn end_vector(l: Line, image: &[u16]) {
+fn end_vector(rt: &impl Print, l: Line, image: &[u16]) -> io::Result<()> {
     let mut pages: [u16; 1024] = [0; 1024];
     let mut memory: [u16; 32768] = [0; 32768];
     copy(image, PAGES_AT, &mut pages, 1024);
     copy(image, 0, &mut memory, PAGES_AT);
-    lend(l, image, &mut pages, &mut memory);
-    io::write_all(1, b" |");
-    print_changes(b" ", &memory, image, 0, PAGES_AT);
-    print_changes(b" MAP ", &pages, image, PAGES_AT, 1024);
-    io::write_all(1, b"\n");
+    lend(rt, l, image, &mut pages, &mut memory)?;
+    rt.write_all(b" |")?;
+    print_changes(rt, b" ", &memory, image, 0, PAGES_AT)?;
+    print_changes(rt, b" MAP ", &pages, image, PAGES_AT, 1024)?;
+    rt.write_all(b"\n")
 }
 
-fn end_line(l: Line, image: &mut [u16; IMAGE]) -> Line {
+fn end_line(rt: &impl Print, l: Line, image: &mut [u16; IMAGE]) -> io::Result<Line> {
     if l.place == NAME {
-        io::write_all(1, b": not a vector\n");
+        rt.write_all(b": not a vector\n")?;
     }
     if l.place == BODY {
         let whole = end_token(l, image);
-        end_vector(whole, image);
+        end_vector(rt, whole, image)?;
         reset(image);
     }
-    start()
+    Ok(start())
 }
 
-fn before_colon(l: Line, c: u8) -> Line {
+fn before_colon(rt: &impl Print, l: Line, c: u8) -> io::Result<Line> {
     let mut m = l;
     if (l.place == START) & (c == b'#') {
         m.place = COMMENT;
-        return m;
+        return Ok(m);
     }
     let text = [c];
-    io::write_all(1, &text);
+    rt.write_all(&text)?;
     m.place = if c == b':' { BODY } else { NAME };
-    m
+    Ok(m)
 }
 
-fn take(l: Line, c: u8, image: &mut [u16; IMAGE]) -> Line {
+fn take(rt: &impl Print, l: Line, c: u8, image: &mut [u16; IMAGE]) -> io::Result<Line> {
     if c == b'\n' {
-        return end_line(l, image);
+        return end_line(rt, l, image);
     }
     if l.place == COMMENT {
-        return l;
+        return Ok(l);
     }
     if l.place != BODY {
-        return before_colon(l, c);
+        return before_colon(rt, l, c);
     }
     if c == b' ' {
-        return end_token(l, image);
+        return Ok(end_token(l, image));
     }
-    within_token(l, c)
+    Ok(within_token(l, c))
 }
 
-fn take_all(first: Line, text: &[u8], image: &mut [u16; IMAGE]) -> Line {
+fn take_all(
+    rt: &impl Print,
+    first: Line,
+    text: &[u8],
+    image: &mut [u16; IMAGE],
+) -> io::Result<Line> {
     let mut l = first;
-    let mut i = 0;
-    while i < text.len() {
-        l = take(l, text[i], image);
-        i += 1;
+    for c in text {
+        l = take(rt, l, *c, image)?;
     }
-    l
+    Ok(l)
 }
 
 // Reads once, and takes what came.
-fn take_some(l: Line, image: &mut [u16; IMAGE]) -> Line {
-    let mut text = io::buffer();
-    let n = io::read_full(0, &mut text);
+fn take_some(rt: &(impl Input + Print), l: Line, image: &mut [u16; IMAGE]) -> io::Result<Line> {
+    let mut text = [0u8; 4096];
+    let n = read_full(&mut rt.reader(), &mut text)?;
     if n == 0 {
-        let mut last = end_line(l, image);
+        let mut last = end_line(rt, l, image)?;
         last.place = END;
-        return last;
+        return Ok(last);
     }
-    take_all(l, &text[..n], image)
+    take_all(rt, l, &text[..n], image)
 }
 
 // A proved loop has to end, and nothing says that the input does: so it counts its turns down.
-pub(crate) fn run_all() {
+pub(crate) fn run_all(rt: &(impl Input + Print)) -> io::Result<()> {
     let mut image: [u16; IMAGE] = [0; IMAGE];
     reset(&mut image);
     let mut l = start();
-    let mut turns: u32 = 10000;
-    while turns > 0 && l.place != END {
-        l = take_some(l, &mut image);
-        turns -= 1;
+    for _ in 0..10000 {
+        if l.place == END {
+            break;
+        }
+        l = take_some(rt, l, &mut image)?;
     }
+    Ok(())
 }

@@ -2,7 +2,7 @@
 #![tactic(auto)]
 
 use code::instructions::Instruction;
-use libc::STDOUT_FILENO;
+use std::io;
 
 // A class by its number, in the order of the listing.
 fn class_of(word: u16) -> u8 {
@@ -19,28 +19,25 @@ fn class_of(word: u16) -> u8 {
 
 fn count_of(class: u8) -> u64 {
     let mut n: u64 = 0;
-    let mut word: u32 = 0;
-    while word < 65536 {
-        if class_of(word as u16) == class {
+    for word in 0..=u16::MAX {
+        if class_of(word) == class {
             n += 1;
         }
-        word += 1;
     }
     n
 }
 
-fn print(label: &[u8], class: u8) {
-    io::write_all(STDOUT_FILENO, label);
-    io::print_decimal(STDOUT_FILENO, count_of(class));
-    io::write_all(STDOUT_FILENO, b"\n");
+fn print(rt: &impl Print, label: &[u8], class: u8) -> io::Result<()> {
+    rt.write_all(label)?;
+    println!(rt; "{}", count_of(class))
 }
 
-fn main() {
-    print(b"memory reference ", 0);
-    print(b"shift/rotate ", 1);
-    print(b"alter/skip ", 2);
-    print(b"I/O ", 3);
-    print(b"extended ", 4);
-    print(b"long shift ", 5);
-    print(b"not built ", 6);
+fn main(rt: HostRuntime) -> io::Result<()> {
+    print(&rt, b"memory reference ", 0)?;
+    print(&rt, b"shift/rotate ", 1)?;
+    print(&rt, b"alter/skip ", 2)?;
+    print(&rt, b"I/O ", 3)?;
+    print(&rt, b"extended ", 4)?;
+    print(&rt, b"long shift ", 5)?;
+    print(&rt, b"not built ", 6)
 }

@@ -1,0 +1,20 @@
+// Reading until a buffer is full.
+ghost use Rattle.std.specs.Io.{ReadsAtMost};
+
+use std::io;
+use std::io::Read;
+
+// Reads until buf is full or the input ends, and returns how many bytes it put at the start of buf.
+pub fn read_full<R: Read>(from: &mut R, buf: &mut [u8]) -> io::Result<usize>
+    ensures { ReadsAtMost result buf.new }
+{
+    let mut done = 0;
+    while done < buf.len() {
+        let n = from.read(&mut buf[done..])?;
+        if n == 0 {
+            break;
+        }
+        done += n;
+    }
+    Ok(done)
+}
