@@ -44,6 +44,8 @@ pub(crate) fn with_bytes(t: Text, l: &[u8]) -> Text
 pub(crate) fn with_decimal(t: Text, n: u32) -> Text
     ensures { result ≡ puts t (decimal_digits n) }
 {
-    let front = if n < 10 { t } else { with_decimal(t, n / 10) };
-    with_byte(front, b'0' + (n % 10) as u8)
+    if n < 10 {
+        return with_byte(t, b'0' + n as u8);
+    }
+    with_byte(with_decimal(t, n / 10), b'0' + (n % 10) as u8)
 }
