@@ -1,21 +1,17 @@
 -- Bytes put into a text, and a number in decimal.
 --     puts_more       bytes put after bytes
 --     puts_holding    bytes put at the end of a text that has room for them
---     fewest          the digits that `io::decimal` promises are those of specs/Text
+--     one_digit       a number below 10 is put as its digit
+--     more_digits     another number is its digits but the last, and that digit behind them
 --     most_digits     a number below 10 ^ k has up to k digits, k not 0
 -- Assumes nothing.
-use Prim.Native.Nat.{ℕ, zero, suc, ◌+◌, ◌-◌, ◌/◌, ◌%◌, ◌^◌, ◌<◌, ◌≤◌}
-use native.Mathlib.Omega.{arith}
-use native.Mathlib.Nat.{pow-suc, one-le-pow, mod-eq_of_lt}
-use native.Mathlib.Numerals.{add-one}
-use mathlib.Core.Path.{◌≡◌, refl}
-use mathlib.Core.Bool.{Bool, true, false, cond}
-use mathlib.Core.List.{List, [], ◌∷◌, ◌++◌, append-nil, append_assoc}
-use borrow.Author.Tests.{lt-ltb, le-ltb}
-use lib.Dec.{ltb}
-use lib.ListN.{length, drop, set, replicate, length-append}
-use lib.Seq.{drop-cons, set-append_seam}
-use Rattle.io.specs.Digits.{last_digits, IsDigitCount}
+use Rattle.std.proofs.Common.{◌≡◌, refl, ℕ, zero, suc, ◌+◌, ◌/◌, ◌%◌, ◌^◌, ◌<◌, ◌≤◌, Bool, true, false, cond, List, [], ◌∷◌, ◌++◌, length, drop, replicate, arith, add-one}
+use Rattle.std.proofs.Math.Nat.{pow-suc}
+use Rattle.std.proofs.Math.Dec.{ltb}
+use Rattle.std.proofs.Math.ListN.{set}
+use Rattle.std.proofs.Math.Seq.{drop-cons, set-append_seam}
+use Rattle.std.proofs.lemmas.Bool.{ltb-false, lt-ltb, le-ltb}
+use Rattle.std.proofs.lemmas.List.{length-append, append-nil, append_assoc}
 use Rattle.list.specs.declared.text.Text.{Text}
 use Rattle.list.specs.Text.{put, puts, holding, digits_within, decimal_digits}
 
@@ -39,25 +35,27 @@ puts_holding d [] h = rw append-nil refl
 puts_holding d (b ∷ l) h =
     rw (put_holding d b (omega arith), puts_holding (d ++ (b ∷ [])) l (rw length-append (omega arith)), append_assoc d (b ∷ []) l) refl
 
-spelled : (k f n : ℕ) → n < f → n < 10 ^ suc k → (0 < k → 10 ^ k ≤ n) → last_digits 10 (suc k) n ≡ digits_within f n
-unfolding digits_within
-spelled k zero n h u l = absurd (omega arith)
-spelled zero (suc f) n h u l = rw (mod-eq_of_lt u, lt-ltb n 10 u) refl
-spelled (suc k) (suc f) n h u l =
-    let low : 10 ^ suc k ≤ n = l (omega arith) in
-    let ten : 10 ≤ n = omega (arith, pow-suc 10 k, one-le-pow k 10 (omega arith)) in
-    rw (
-      le-ltb n 10 ten,
-      lt-ltb (n % 10) 10 (omega arith),
-      ← spelled k f (n / 10) (omega arith) (omega (arith, pow-suc 10 (suc k))) (λ z. omega (arith, pow-suc 10 k)),
-    )
-    refl
+one_branch : (b : Bool) (x y z : List ℕ) → (b ≡ false → y ≡ z) → cond b x y ≡ cond b x z
+one_branch true x y z h = refl
+one_branch false x y z h = h refl
 
-pub fewest : (k n : ℕ) → IsDigitCount 10 1 n k → last_digits 10 k n ≡ decimal_digits n
-fewest zero n e = absurd (omega arith)
-fewest (suc k) n e =
-    let last : suc k - 1 ≡ k = omega arith in
-    spelled k (suc n) n (omega arith) e.1 (λ z. rw last at (e.2 (omega arith)))
+-- digits_within gives the same with any two numbers that are enough
+enough : (k f n : ℕ) → n < k → n < f → digits_within k n ≡ digits_within f n
+unfolding digits_within
+enough zero f n h u = absurd (omega arith)
+enough (suc k) zero n h u = absurd (omega arith)
+enough (suc k) (suc f) n h u =
+    one_branch (ltb n 10) _ _ _
+    (λ e. let ten : 10 ≤ n = ltb-false n 10 e in rw (enough k f (n / 10) (omega arith) (omega arith)) refl)
+
+pub one_digit : (t : Text) (n : ℕ) → n < 10 → put t (48 + n) ≡ puts t (decimal_digits n)
+unfolding digits_within puts
+one_digit t n h = rw (lt-ltb n 10 h) refl
+
+pub more_digits : (t : Text) (n : ℕ) → 10 ≤ n → put (puts t (decimal_digits (n / 10))) (48 + n % 10) ≡ puts t (decimal_digits n)
+unfolding digits_within puts
+more_digits t n h =
+    rw (le-ltb n 10 h, enough n (suc (n / 10)) (n / 10) (omega arith) (omega arith), puts_more t) refl
 
 either : (b : Bool) (x y : List ℕ) (k : ℕ) → length x ≤ k → length y ≤ k → length (cond b x y) ≤ k
 either true x y k p q = p

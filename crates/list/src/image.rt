@@ -10,10 +10,8 @@ pub fn page_registers() -> [u16; 1024]
     ensures { result ≡ page_names }
 {
     let mut pages = [0u16; 1024];
-    let mut i = 0;
-    while i < 1024 {
+    for i in 0..1024 {
         pages[i] = (i % 32) as u16;
-        i += 1;
     }
     pages
 }
@@ -39,10 +37,8 @@ pub fn image_words(bytes: &[u8]) -> [u16; 8192]
     ensures { result ≡ tabulated (image_word bytes.now) 8192 }
 {
     let mut memory = [0u16; 8192];
-    let mut i = 0;
-    while i < 8192 {
+    for i in 0..8192 {
         memory[i] = word_of(byte_at(bytes, 2 * i), byte_at(bytes, 2 * i + 1));
-        i += 1;
     }
     memory
 }

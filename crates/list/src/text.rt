@@ -33,10 +33,8 @@ pub(crate) fn with_bytes(t: Text, l: &[u8]) -> Text
     ensures { result ≡ puts t l.now }
 {
     let mut s = t;
-    let mut i = 0;
-    while i < l.len() {
-        s = with_byte(s, l[i]);
-        i += 1;
+    for b in l {
+        s = with_byte(s, *b);
     }
     s
 }
