@@ -2,11 +2,8 @@
 --     room     they are no longer than 80 bytes
 --     whole    put into a blank text, they are what it holds
 -- Assumes nothing.
-use Prim.Native.Nat.{suc, ◌^◌, ◌<◌, ◌≤◌}
-use native.Mathlib.Omega.{arith}
-use mathlib.Core.Path.{◌≡◌, ◌∙◌, sym}
-use mathlib.Core.List.{[], ◌++◌}
-use lib.ListN.{length, length-append}
+use Rattle.std.proofs.Common.{◌≡◌, suc, ◌^◌, ◌<◌, ◌≤◌, arith, ◌∙◌, sym, [], ◌++◌, length}
+use Rattle.std.proofs.lemmas.List.{length-append}
 use Rattle.acts.specs.Replies.{number}
 use Rattle.acts.specs.declared.replies.Ran.{Ran}
 use Rattle.acts.specs.declared.replies.Reply.{Reply}
