@@ -108,10 +108,10 @@ pub record RolledOn (pages : List ℕ) (r : Registers) (m : List ℕ) (count : �
   pub good : good_call (length pages) (length n) s ≡ true
   pub goes : (left : ℕ) → running pages (count + left) r m ≡ plus count (running pages left s n)
 
-pub rolled : {pages m n : List ℕ} {r s : Registers} {count : ℕ} → good_call (length pages) (length m) r ≡ true
+pub rolled : {pages m : List ℕ} {r : Registers} {n : List ℕ} {s : Registers} {count : ℕ} → good_call (length pages) (length m) r ≡ true
     → Rolls pages r m count s n → RolledOn pages r m count s n
 rolled good none = record { good = good; goes = λ left. rw zero-add (plus_none _) }
-rolled {pages} {m} {n = later} {r} {s = t} good (more-by-one {count = k} {s = s} {n = n} h e) =
+rolled {pages} {m} {r} {n = later} {s = t} good (more-by-one {count = k} {s = s} {n = n} h e) =
     let before = rolled good h in
     let done : Ends s n (exec pages (step_act s) s n) (record { reply = Reply.Completed; registers = t }) later = rw e (record { outcome = refl; memory = refl }) in
     record {
