@@ -6,7 +6,7 @@ use Prim.Native.Nat.{ℕ, zero, suc, ◌+◌, ◌≤◌}
 use native.Mathlib.Omega.{arith}
 use native.Mathlib.Nat.{zero-add, add_assoc, suc-add}
 use mathlib.Core.Path.{◌≡◌, refl, sym, ◌∙◌, ap}
-use mathlib.Core.Bool.{Bool, true, false, cond, ◌&&◌}
+use mathlib.Core.Bool.{Bool, true, false, cond}
 use mathlib.Core.List.{List}
 use lib.Dec.{eqb, leb}
 use lib.ListN.{length}
@@ -16,11 +16,9 @@ use Rattle.acts.specs.Acts.{answer, left}
 use Rattle.acts.specs.Replies.{number}
 use Rattle.machine.specs.Step.{good_call, stepped, Leaves, ending, counting, after, running, ran, Runs}
 use Rattle.acts.specs.declared.record.Registers.{Registers}
-use Rattle.acts.specs.declared.replies.Reply.{Reply}
 use Rattle.acts.specs.declared.replies.Stepped.{Stepped}
-use Rattle.acts.specs.declared.replies.Ran.{Ran}
 use Rattle.machine.proofs.Good.{good_kept}
-use Rattle.answers.specs.Budgets.{plus, onward, Cut, Joined, CutPromise}
+use Rattle.answers.specs.Budgets.{plus, onward, Cut, CutPromise}
 
 -- the first step, and a cut among the steps after it
 after_onward : (t : Stepped) (later : List ℕ) (rest : Leaves) (next : Registers → List ℕ → Leaves)

@@ -2,16 +2,16 @@
 --     ending_of            the result of a program, by its number
 --     running-fair .. running-count    of the steps of a good call: the reply, and the count
 -- Assumes nothing.
-use Prim.Native.Nat.{ℕ, zero, suc, ◌+◌, ◌≤◌}
+use Prim.Native.Nat.{ℕ, zero, suc, ◌≤◌}
 use native.Mathlib.Omega.{arith}
-use mathlib.Core.Path.{◌≡◌, refl, sym, ◌∙◌}
+use mathlib.Core.Path.{◌≡◌, refl}
 use mathlib.Core.Bool.{Bool, true, false, cond, ◌&&◌, and-eq-true_iff}
 use mathlib.Core.List.{List}
-use lib.Dec.{T, eqb, leb, leb→le}
+use lib.Dec.{eqb, leb}
 use lib.ListN.{length}
 use Rattle.word.specs.Words.{weight}
 use Rattle.code.proofs.Truth.{never}
-use Rattle.acts.specs.Acts.{Result, done, violated, refused, bad_call, exec, answer, left}
+use Rattle.acts.specs.Acts.{Result, done, violated, refused, bad_call, answer, left}
 use Rattle.acts.specs.Replies.{number}
 use Rattle.machine.specs.Step.{good_call, stepped, Leaves, ending, counting, after, running, ran}
 use Rattle.acts.specs.declared.record.Registers.{Registers}
@@ -20,7 +20,7 @@ use Rattle.acts.specs.declared.replies.Reply.{Reply}
 use Rattle.acts.specs.declared.replies.Stepped.{Stepped}
 use Rattle.acts.proofs.Keeping.{Fair, exec_fair}
 use Rattle.rules.specs.Rules.{step_act}
-use Rattle.machine.proofs.Good.{good_valid, good_stepped, good_kept}
+use Rattle.machine.proofs.Good.{good_stepped, good_kept}
 use Rattle.answers.specs.Exactly.{Ending, completed, interrupted, refused_with, StepGood, RuleRefuses, StepBad, StepGoodOnly, RunBad, RunGoodOnly, RunSpent, RunCount}
 
 pub rule_refuses : RuleRefuses

@@ -7,10 +7,8 @@
 -- What each of 2 to 7 stands for is in the rules themselves: a rule names its reply where it stops.
 -- Assumes nothing.
 use Rattle.std.specs.Prelude.{ℕ, ◌≤◌, ◌≡◌, true, false, ◌&&◌, List, leb, length}
-use Rattle.acts.specs.Acts.{Result, done, violated, refused, exec, answer}
+use Rattle.acts.specs.Acts.{Result, done, violated, refused, answer}
 use Rattle.acts.specs.Replies.{number}
-use Rattle.acts.specs.Record.{valid}
-use Rattle.rules.specs.Rules.{step_act}
 use Rattle.machine.specs.Step.{good_call, stepped, ran}
 use Rattle.acts.specs.declared.record.Registers.{Registers}
 use Rattle.acts.specs.declared.replies.Refusal.{Refusal}

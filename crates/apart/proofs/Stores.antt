@@ -15,7 +15,7 @@ use lib.Dec.{eqb, leb}
 use lib.ListN.{length, set}
 use Rattle.word.specs.Words.{weight}
 use Rattle.maps.specs.Pages.{protecting, is_open, presence, place}
-use Rattle.maps.specs.Access.{fetched, put}
+use Rattle.maps.specs.Access.{fetched}
 use Rattle.maps.specs.Chains.{chain}
 use Rattle.maps.specs.Open.{OpenToStore, Agree}
 use Rattle.maps.proofs.Laws.{put_length, put_either, put_elsewhere, put_agree, place_open, fetched_agree, chain_agree}
@@ -24,11 +24,11 @@ use Rattle.maps.specs.declared.pages.Place.{Place}
 use Rattle.maps.specs.declared.troubles.Trouble.{Trouble}
 use Rattle.maps.specs.declared.troubles.Got.{Got}
 use Rattle.maps.specs.declared.troubles.Tested.{Tested}
-use Rattle.acts.specs.Record.{with_a, with_b, interrupted}
+use Rattle.acts.specs.Record.{with_a, with_b}
 use Rattle.acts.specs.Acts.{Act, fin, stop, violate, load, save, follow, opened, present, Result, done, violated, refused, bad_call, troubled, on_got, on_place, on_open, on_tested, exec, answer, left}
 use Rattle.acts.specs.Replies.{number}
 use Rattle.rules.specs.Rules.{step_act}
-use Rattle.machine.specs.Step.{good_call, stepped, Leaves, ending, counting, after, running, ran}
+use Rattle.machine.specs.Step.{good_call, stepped, Leaves, ending, counting, running, ran}
 use Rattle.acts.specs.declared.record.Registers.{Registers}
 use Rattle.acts.specs.declared.replies.Refusal.{Refusal}
 use Rattle.acts.specs.declared.replies.Reply.{Reply}

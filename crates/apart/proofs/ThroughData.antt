@@ -6,17 +6,17 @@
 --     ended                     the run by computation: a cross load takes z, and stores it on the third page
 --     differs                   so what the second page holds is seen, and has to agree
 -- Assumes nothing.
-use Prim.Native.Nat.{ℕ, zero, suc, ◌<◌, ◌+◌, ◌*◌, ◌/◌}
+use Prim.Native.Nat.{ℕ, ◌<◌, ◌/◌}
 use native.Mathlib.Omega.{arith}
 use mathlib.Core.Path.{◌≡◌, refl, sym, ◌∙◌}
 use mathlib.Core.Bool.{Bool, true, false, ◌||◌}
 use mathlib.Core.List.{List, ◌∷◌, ◌++◌}
 use lib.Dec.{T, ltb, ltb→lt}
-use lib.ListN.{length, get_or, replicate, get_or-append}
+use lib.ListN.{length, replicate, get_or-append}
 use Rattle.maps.specs.Pages.{physical_page, read_protected, page_register, is_open, presence, spot, place}
 use Rattle.maps.specs.Access.{fetched}
 use Rattle.maps.specs.Chains.{chased, chain}
-use Rattle.maps.specs.Open.{OpenToRead, Agree}
+use Rattle.maps.specs.Open.{Agree}
 use Rattle.maps.specs.declared.pages.Map.{Map}
 use Rattle.maps.specs.declared.pages.Map.TheVariants.{Execute, Data1, Data2}
 use Rattle.code.specs.Codes.{rows, find_word}

@@ -11,7 +11,6 @@ use mathlib.Core.Bool.{Bool, true, false}
 use mathlib.Core.List.{List, [], ◌∷◌}
 use lib.Dec.{T, eqb, eqb→eq}
 use lib.ListN.{length, get_or}
-use Rattle.word.specs.Words.{weight}
 use Rattle.word.specs.Sums.{sum}
 use Rattle.word.specs.Long.{moved, loses}
 use Rattle.word.specs.Products.{multiplied, divided}

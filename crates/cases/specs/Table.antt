@@ -10,7 +10,6 @@ use Rattle.acts.specs.Replies.{number}
 use Rattle.acts.specs.Acts.{Result, answer, left}
 use Rattle.machine.specs.Step.{stepped}
 use Rattle.acts.specs.declared.record.Registers.{Registers}
-use Rattle.acts.specs.declared.replies.Stepped.{Stepped}
 
 -- an address and its word
 pub record Cell : Type 0 where
