@@ -1,12 +1,12 @@
 -- Reading and writing fields are inverse: the theorems.
---     long_back, flag_back  the choice of a choice's number
---     instruction_back      an instruction that has a word is taken again from its fields
---     read-back             so what a word reads as is
---     one_word              and no two words read as the same fields
---     exact_word            where a word reads as an exact code, it is the field that the code goes by
+--     long_back, flag_back        the choice of a choice's number
+--     instruction_back            an instruction that has a word is taken again from its fields
+--     read-back                   so what a word reads as is
+--     one_word                    and no two words read as the same fields
+--     exact_word                  where a word reads as an exact code, it is the field that the code goes by
 --     is_word, write_then_read    where fields have a word, it has 16 bits and reads as these fields
---     no_word_reads         where fields have no word, no word reads as them
---     read_then_write       the fields that a word reads as are written as that word
+--     no_word_reads               where fields have no word, no word reads as them
+--     read_then_write             the fields that a word reads as are written as that word
 -- Assumes nothing.
 use Prim.Native.Nat.{ℕ, ◌<◌}
 use mathlib.Core.Path.{◌≡◌, refl, sym, ap, ◌∙◌}

@@ -1,10 +1,10 @@
 -- An instruction as ten flat fields, and the calls that read and write one.
---     long_kind               the numbers of the long shifts; those of the other choices are in Instructions of `code`
---     fields_of               the fields of an instruction: its class, then those of the class; fields that it does not use are 0
---     same_words              whether two lists hold the same words
+--     long_kind                     the numbers of the long shifts; those of the other choices are in Instructions of `code`
+--     fields_of                     the fields of an instruction: its class, then those of the class; fields that it does not use are 0
+--     same_words                    whether two lists hold the same words
 --     word_below, writing_fields    the word that reads as these fields, or none
---     number_written          the writer's answer by its number
---     read_call, write_call    the two calls
+--     number_written                the writer's answer by its number
+--     read_call, write_call         the two calls
 -- What a word reads as is `reading`, of `code`. That no two words read as the same fields is in proofs/Inverse.antt.
 -- Assumes nothing.
 use Rattle.std.specs.Prelude.{ℕ, zero, suc, ◌/◌, Bool, true, false, cond, ◌&&◌, List, [], ◌∷◌, eqb, length}

@@ -1,8 +1,8 @@
 -- What every ending of a program keeps holds of its result: an induction over programs, whatever rule they state.
---     Leads, Keeps              a program that leads from what is asked of registers to something else, or keeps it
+--     Leads, Keeps                     a program that leads from what is asked of registers to something else, or keeps it
 --     Carrying, Carries, exec_holds    what stores keep, and endings lead to, holds of the result
---     left_length, exec_length  so a program leaves as many words as it found
---     Fair, exec_fair           and gives the result of no bad call
+--     left_length, exec_length         so a program leaves as many words as it found
+--     Fair, exec_fair                  and gives the result of no bad call
 -- Assumes nothing.
 use Prim.Native.Nat.{ℕ, ◌<◌}
 use mathlib.Core.Path.{◌≡◌, refl, ◌∙◌}

@@ -1,11 +1,11 @@
 -- How a program goes on past its reading parts, and past a store that is its last act: what the proofs of the functions cite.
---     reads, chases          what a read and a chain give to a program
---     had-value to had-stop  `exec` of a part, by what a function gave
---     direct                 an address word with bit 15 clear is the address
+--     reads, chases                 what a read and a chain give to a program
+--     had_value to had_stop         `exec` of a part, by what a function gave
+--     direct                        an address word with bit 15 clear is the address
 --     Leads, by_chain, by_itself    where an address word leads: by a chain, or it is the address
---     stopping               trouble leaves the registers that its answer has, and the memory
---     saved                  a store, by its place
---     ends_last              what follows a last store may come before it, where the store does not see it
+--     stopping                      trouble leaves the registers that its answer has, and the memory
+--     saved                         a store, by its place
+--     ends_last                     what follows a last store may come before it, where the store does not see it
 -- Assumes nothing.
 use Prim.Native.Nat.{ℕ, ◌/◌, ◌%◌, ◌<◌}
 use native.Mathlib.Omega.{arith}

@@ -37,7 +37,7 @@ use Rattle.acts.proofs.record.register.Reads as register_reads
 use Rattle.acts.proofs.record.set_register.Kinds as set_register
 use Rattle.acts.proofs.record.set_register.Reads as set_register_reads
 use Rattle.acts.proofs.record.index.Kinds as index
-use Rattle.acts.proofs.record.index.Reads as index_Reads
+use Rattle.acts.proofs.record.index.Reads as index_reads
 use Rattle.acts.proofs.record.set_index.Kinds as set_index
 use Rattle.acts.proofs.record.set_index.Reads as set_index_reads
 use Rattle.acts.proofs.record.go_to.Kinds as go_to
@@ -157,7 +157,7 @@ register_tight κs a x y s t p q = p ∙ sym q
 pub set_register_tight : OneResult 0 set_register.ps set_register.r set_register_reads.Post
 set_register_tight κs a x y s t p q = p ∙ sym q
 
-pub index_tight : OneResult 0 index.ps index.r index_Reads.Post
+pub index_tight : OneResult 0 index.ps index.r index_reads.Post
 index_tight κs a x y s t p q = p ∙ sym q
 
 pub set_index_tight : OneResult 0 set_index.ps set_index.r set_index_reads.Post

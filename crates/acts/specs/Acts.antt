@@ -1,11 +1,11 @@
 -- What a rule is: a small program over logical addresses, and how one is run.
---     Act         the program: each access in its order, and how it ends
---     Result      what running one gives
---     exec        running one from registers and memory; page registers are only read
---     go_on        completed, with P elsewhere
---     operand     the address that an address word after the instruction's first leads to
---     answer, left    the reply and registers of a result, and the memory that it leaves
---     Performs, Gives     what a function promises that carries out a program, or the reading part of one
+--     Act                the program: each access in its order, and how it ends
+--     Result             what running one gives
+--     exec               running one from registers and memory; page registers are only read
+--     go_on              completed, with P elsewhere
+--     operand            the address that an address word after the instruction's first leads to
+--     answer, left       the reply and registers of a result, and the memory that it leaves
+--     Performs, Gives    what a function promises that carries out a program, or the reading part of one
 -- A program that ends in trouble has changed nothing, by `answer` and `left`: that is said here, once, for every rule.
 -- Assumes nothing.
 use Rattle.std.specs.Prelude.{ℕ, ◌≡◌, Bool, true, false, List, length, set}

@@ -1,10 +1,10 @@
 -- The register record.
---     made, changed, words_of     the order of its words
---     withWord .. withIndex      one register replaced
---     ahead                      P moved on
---     fresh, valid               the fresh record, and which records are valid
---     interrupted                the interrupt state of a violation
---     isRecord .. registersOf    the record that words are, if they are one
+--     made, changed, words_of      the order of its words
+--     with_word .. with_index      one register replaced
+--     ahead                        P moved on
+--     fresh, valid                 the fresh record, and which records are valid
+--     interrupted                  the interrupt state of a violation
+--     is_record .. registers_of    the record that words are, if they are one
 -- Assumes nothing.
 use Rattle.std.specs.Prelude.{ℕ, Bool, false, cond, not, ◌&&◌, ◌||◌, List, [], ◌∷◌, eqb, leb, ltb, length, get_or}
 use Rattle.word.specs.Words.{weight}

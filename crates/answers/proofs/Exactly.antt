@@ -1,6 +1,6 @@
 -- The theorems of specs/Exactly, by name.
 --     ending_of            the result of a program, by its number
---     running-fair .. running-count    of the steps of a good call: the reply, and the count
+--     running_fair .. running_count    of the steps of a good call: the reply, and the count
 -- Assumes nothing.
 use Prim.Native.Nat.{ℕ, zero, suc, ◌≤◌}
 use native.Mathlib.Omega.{arith}

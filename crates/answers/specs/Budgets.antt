@@ -1,7 +1,7 @@
 -- A budget cut in two: a run of m + n steps is a run of m and, where that replied 0, a run of n from what it left. What is
 -- claimed; the proofs are in proofs/Budgets.
---     plus, onward      steps counted before; a run, and the one after it
---     Cut               the same of what runs leave
+--     plus, onward          steps counted before; a run, and the one after it
+--     Cut                   the same of what runs leave
 --     Joined, CutPromise    and of what `run` promises, page registers included
 -- Assumes nothing.
 use Rattle.std.specs.Prelude.{ℕ, ◌+◌, ◌≡◌, true, cond, List, eqb, leb}

@@ -4,7 +4,7 @@
 --     ended                             the run by computation: it stores, compares, counts and ends in a violation
 --     closed_store, one_changes         its stores, for every x: where x is 5, the store on the closed page changes no word
 --     one_alone                         a machine that leaves out a store by what a closed page holds is no OneList
---     unprotected to after-interrupt    where a hypothesis fails, two runs differ
+--     unprotected to after_interrupt    where a hypothesis fails, two runs differ
 -- Assumes nothing.
 use Prim.Native.Nat.{ℕ, zero, suc, ◌<◌, ◌+◌, ◌*◌, ◌/◌}
 use native.Mathlib.Omega.{arith}

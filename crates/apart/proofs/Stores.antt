@@ -1,8 +1,8 @@
 -- What stands behind `Apart`: one induction over access programs and one over the budget, each for every memory that agrees with
 -- one memory on the pages open to reading.
---     storing_on, storing-length, storing_agrees     stores one after another: their order, the length, agreement
+--     storing_on, storing_length, storing_agrees     stores one after another: their order, the length, agreement
 --     one_kept, then_kept, stores_kept               what a list of stores keeps of two memories
---     Results, result-of, exec_results               the results of a program
+--     Results, result_of, exec_results               the results of a program
 --     step_results                                   those of a step
 --     Answers, running_answers, ran_answers          the answers of a run
 -- Assumes nothing.

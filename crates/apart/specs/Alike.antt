@@ -1,6 +1,6 @@
 -- The words of the theorems.
 --     Alike                 what is asked of two machines
---     Store, stored_by       stores, and what they leave of a memory
+--     Store, stored_by      stores, and what they leave of a memory
 --     Within, SameStores    stores on pages open to storing; one list of them for two memories
 --     Kept                  what then holds of the memories that they leave
 --     Apart                 what then holds of their answers, stores and memories

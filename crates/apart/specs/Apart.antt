@@ -1,11 +1,11 @@
 -- Demand 3: what a closed page holds can make no difference. What is claimed; the proofs are in proofs/Apart.
---     StepApart, RunApart        two machines alike: a step, and a run up to its first interrupt
---     StepPromise, RunPromise    the same of what `step` and `run` promise; page registers stay by the promises themselves
---     StepStores, RunStores      of one machine: which words a step and a run store depends on no closed page
+--     StepApart, RunApart              two machines alike: a step, and a run up to its first interrupt
+--     StepPromise, RunPromise          the same of what `step` and `run` promise; page registers stay by the promises themselves
+--     StepStores, RunStores            of one machine: which words a step and a run store depends on no closed page
 --     RunDepends, RunKeeps, RunSize    of one machine: what a run depends on, and what it does not change
---     JobsApart                  two jobs on one memory
---     StepTrouble                a step that does not reply 0 changes no word
---     NoTrap                     why "valid" and "no trap waiting" are not asked
+--     JobsApart                        two jobs on one memory
+--     StepTrouble                      a step that does not reply 0 changes no word
+--     NoTrap                           why "valid" and "no trap waiting" are not asked
 -- The words are in `Alike`.
 -- Assumes nothing.
 use Rattle.std.specs.Prelude.{ℕ, ◌/◌, ◌≡◌, true, List, eqb, length, get_or}

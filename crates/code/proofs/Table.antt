@@ -5,7 +5,7 @@
 --     in_table      a test that every row passes, at the row of a kind
 --     at_number     each kind is the one at its number
 -- and what a turn of each search shows of the table as the code keeps it:
---     kind-met, kind-passed, word-met, word-passed, past, size
+--     kind_met, kind_passed, word_met, word_passed, past, size
 -- and
 --     code_small    every code leaves room for a count of four bits
 -- Assumes nothing.

@@ -1,8 +1,8 @@
 -- The extended codes, 01 "Instructions built":
 --     rows          the table of code, length and kind, by rising code
---     find_word      the row of a word, if one has it
---     find_kind      the row of a kind
---     length_of      how many words an exact code takes
+--     find_word     the row of a word, if one has it
+--     find_kind     the row of a kind
+--     length_of     how many words an exact code takes
 --     privileged    105700 to 105711, known to the privilege test and not built
 -- What the words of the other groups mean is in Instructions.
 -- Assumes nothing.

@@ -1,11 +1,11 @@
 -- The kinds of an extended code, and the numbers by which the table of src/ names them. A number is made of small numbers,
 --     group * 64 + operation * 4 + register * 2 + index register or map
 -- so one more operation of a group, of which there is room for 16, moves no other number:
---     number        of a kind
---     kind_at        the kind at a number
---     kept          a row as that table keeps it
---     holds         whether a row so kept is the row of a word
---     same          whether two kinds are the same, told by their numbers
+--     number     of a kind
+--     kind_at    the kind at a number
+--     kept       a row as that table keeps it
+--     holds      whether a row so kept is the row of a word
+--     same       whether two kinds are the same, told by their numbers
 -- That no two kinds have the same number, and that each kind is the one at its number, is in proofs/Table.antt. The table is in
 -- Codes. Assumes nothing.
 use Rattle.std.specs.Prelude.{ℕ, ◌+◌, ◌/◌, ◌%◌, Bool, cond, List, [], ◌∷◌, eqb, get_or}

@@ -306,6 +306,7 @@ fn write_input_output(operation: IoOperation, bit11: bool, bit9: bool, select: u
     )
 }
 
+#[tactic(auto, unfolding(crate::specs::Instructions::write_long_shift))]
 fn write_long_shift(shift: LongShift, places: u16) -> Written
     ensures { result ≡ write_long_shift shift places }
 {

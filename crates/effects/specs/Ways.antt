@@ -1,7 +1,7 @@
 -- What an instruction does with the word at its address, by the way in which it works on memory.
---     flagged             E and O by a sum
---     taken               the word read, and the registers that follow
---     stored, addressed   what is stored, and where
+--     flagged              E and O by a sum
+--     taken                the word read, and the registers that follow
+--     stored, addressed    what is stored, and where
 --     storable, way_act    the accesses of each way
 -- Which instruction goes which way is in `Rules` of the crate `rules`. Assumes nothing.
 use Rattle.std.specs.Prelude.{ℕ, ◌+◌, true, false, not, ◌||◌, eqb}

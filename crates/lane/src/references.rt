@@ -17,6 +17,7 @@ use rules::memory::memory_word;
 use word::sums::{add, increment, past};
 
 // Where an address word leads, by one level at most.
+#[tactic(auto, using(crate::proofs::Ways::once, crate::proofs::Ways::direct))]
 pub(crate) fn lead(word: u16, r: Registers, pages: &[u16], memory: &[u16]) -> Reach
     ensures { Led pages.now word r memory.now result }
 {

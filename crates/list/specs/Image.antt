@@ -1,8 +1,8 @@
 -- A listing's image, page registers and run: 01, "The listing program".
---     tabulated          f at 0, 1, .. below n
---     image_word, image   the words of bytes
---     page_names          the page registers
---     is_whole, listed    which lengths are run, and what is printed
+--     tabulated            f at 0, 1, .. below n
+--     image_word, image    the words of bytes
+--     page_names           the page registers
+--     is_whole, listed     which lengths are run, and what is printed
 -- Assumes nothing.
 use Rattle.std.specs.Prelude.{ℕ, zero, suc, ◌+◌, ◌*◌, ◌/◌, ◌%◌, Bool, cond, ◌&&◌, List, [], ◌∷◌, ◌++◌, eqb, leb, length, get_or}
 use Rattle.acts.specs.Record.{fresh}

@@ -1,7 +1,7 @@
 -- What a listing prints: 01, "The listing program".
 --     header     its first line
 --     spaced     bytes after a space
---     line_of     its second line, of a run
+--     line_of    its second line, of a run
 --     listing    both, of an image's bytes
 -- Assumes nothing.
 use Rattle.std.specs.Prelude.{ℕ, List, [], ◌∷◌, ◌++◌}

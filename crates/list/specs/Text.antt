@@ -1,7 +1,7 @@
 -- A text of up to 80 bytes, and what is put at its end.
---     put, puts        one byte, and bytes one after the other; a byte that has no room is left out
---     holding          the text of given bytes, the rest of its 80 being 0
---     quoted           the bytes of a quotation, in ASCII
+--     put, puts         one byte, and bytes one after the other; a byte that has no room is left out
+--     holding           the text of given bytes, the rest of its 80 being 0
+--     quoted            the bytes of a quotation, in ASCII
 --     decimal_digits    a number in decimal without leading zeros, in ASCII
 -- Assumes nothing.
 use Rattle.std.specs.Prelude.{ℕ, zero, suc, ◌+◌, ◌/◌, ◌%◌, cond, List, [], ◌∷◌, ◌++◌, ltb, length, drop, set, replicate}

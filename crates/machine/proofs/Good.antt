@@ -1,7 +1,7 @@
 -- A step keeps what a good call asks for, the length of memory and a valid record; and where it replies 0 it keeps WMAP.
---     stepped_length          a step leaves as many words as it found
---     good-stepped, good-kept the step of a good call, and the call that follows it
---     step_stays              a step that replies 0 leaves WMAP as it was
+--     stepped_length             a step leaves as many words as it found
+--     good_stepped, good_kept    the step of a good call, and the call that follows it
+--     step_stays                 a step that replies 0 leaves WMAP as it was
 -- Assumes nothing.
 use Prim.Native.Nat.{ℕ}
 use mathlib.Core.Path.{◌≡◌, refl, sym}

@@ -20,7 +20,7 @@ use Rattle.word.specs.Words.{weight}
 use Rattle.acts.specs.Replies.{number}
 use Rattle.acts.specs.Acts.{Ends, exec, answer, left}
 use Rattle.rules.specs.Rules.{step_act}
-use Rattle.lane.specs.Lane.{Rolls, none, one_more as more-by-one}
+use Rattle.lane.specs.Lane.{Rolls, none, one_more as more_by_one}
 use Rattle.machine.specs.Turns.{plus, Turned}
 use Rattle.machine.specs.Step.{good_call, stepped, Leaves, ending, counting, after, running, ran, Goes, Steps}
 use Rattle.acts.specs.declared.record.Registers.{Registers}
@@ -111,7 +111,7 @@ pub record RolledOn (pages : List ℕ) (r : Registers) (m : List ℕ) (count : �
 pub rolled : {pages m : List ℕ} {r : Registers} {n : List ℕ} {s : Registers} {count : ℕ} → good_call (length pages) (length m) r ≡ true
     → Rolls pages r m count s n → RolledOn pages r m count s n
 rolled good none = record { good = good; goes = λ left. rw zero-add (plus_none _) }
-rolled {pages} {m} {r} {n = later} {s = t} good (more-by-one {count = k} {s = s} {n = n} h e) =
+rolled {pages} {m} {r} {n = later} {s = t} good (more_by_one {count = k} {s = s} {n = n} h e) =
     let before = rolled good h in
     let done : Ends s n (exec pages (step_act s) s n) (record { reply = Reply.Completed; registers = t }) later = rw e (record { outcome = refl; memory = refl }) in
     record {

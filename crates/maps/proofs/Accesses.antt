@@ -1,9 +1,9 @@
 -- Accesses, their tests, words and chains: lemmas for `Laws` and the functions. No promise and no law names anything of it.
 --     never                               two different answers are not equal
 --     InMemory, in_memory                 how an access comes to a word of memory
---     or-true to whole                    what the laws need of the two tests
---     held_same to set-either             what they need of words
---     chased-ends to chased-all           how a chain goes on, and what then holds of it
+--     or_true to whole                    what the laws need of the two tests
+--     held_same to set_either             what they need of words
+--     chased_ends to chased_all           how a chain goes on, and what then holds of it
 -- Assumes nothing.
 use Prim.Native.Nat.{ℕ, zero, suc, ◌<◌, ◌≤◌, ◌+◌, ◌*◌, ◌%◌}
 use native.Mathlib.Omega.{arith}

@@ -1,6 +1,6 @@
 -- Each promise fixes its outcome: two outcomes that satisfy a function's own contract, as its `Reads` has it, are equal.
 -- A function that lends nothing to be written has `OneResult` of the word layer. store_word, the only other, has in
--- store-word-tight the later memory beside the result. In the order of src/: pages, access, chains, bytes.
+-- store_word_tight the later memory beside the result. In the order of src/: pages, access, chains, bytes.
 -- Assumes nothing.
 use borrow.Fn.Kinds.{ended_of, res_t, Dens}
 use denote.Triple.Clauses.{AtExit}
@@ -21,7 +21,7 @@ use Rattle.maps.proofs.pages.place_of.Kinds as place_of
 use Rattle.maps.proofs.pages.place_of.Reads as place_of_reads
 use Rattle.maps.proofs.access.read_word.Kinds as read_word
 use Rattle.maps.proofs.access.read_word.Reads as read_word_reads
-use Rattle.maps.proofs.access.store_word.Kinds as StoreWord
+use Rattle.maps.proofs.access.store_word.Kinds as store_word_kinds
 use Rattle.maps.proofs.access.store_word.Reads as store_word_reads
 use Rattle.maps.proofs.chains.follow.Kinds as follow
 use Rattle.maps.proofs.chains.follow.Reads as follow_reads
@@ -51,7 +51,7 @@ place_of_tight κs a x y s t p q = p ∙ sym q
 pub read_word_tight : OneResult 2 read_word.ps read_word.r read_word_reads.Post
 read_word_tight κs a x y s t p q = p ∙ sym q
 
-pub store_word_tight : (κs : Lfts 2) (a : Dens κs StoreWord.ps) (x y : (res_t StoreWord.r κs).Denot) (s t : AtExit (ended_of 2 StoreWord.ps StoreWord.r) κs)
+pub store_word_tight : (κs : Lfts 2) (a : Dens κs store_word_kinds.ps) (x y : (res_t store_word_kinds.r κs).Denot) (s t : AtExit (ended_of 2 store_word_kinds.ps store_word_kinds.r) κs)
     → store_word_reads.Post κs a x s → store_word_reads.Post κs a y t → (x ≡ y) × (s.1.0.now ≡ t.1.0.now)
 store_word_tight κs a x y s t p q = (p.outcome ∙ sym q.outcome, p.memory ∙ sym q.memory)
 

@@ -1,11 +1,11 @@
 -- Page registers and WMAP, and where a logical address leads.
---     physical_page, store_protected, read_protected      the fields of a page register
---     execute_map, data1_map, data2_map, protecting       the fields of WMAP
---     switched                                         WMAP after an interrupt
---     map_number, page_register                          the page register of a logical page in one of the three maps
---     register_of, index_in                              the page register of an address, and the word that it names
+--     physical_page, store_protected, read_protected    the fields of a page register
+--     execute_map, data1_map, data2_map, protecting     the fields of WMAP
+--     switched                                          WMAP after an interrupt
+--     map_number, page_register                         the page register of a logical page in one of the three maps
+--     register_of, index_in                             the page register of an address, and the word that it names
 --     is_register                                       whether an address is A or B
---     closed_to, is_open, presence                       the two tests of an access
+--     closed_to, is_open, presence                      the two tests of an access
 --     spot, if_present, place, Reached                  where an access ends
 --     number_place                                      the paper's number
 -- Page registers and memory are lists of any length, and every number is an address: nothing is asked of them. Not here:

@@ -123,6 +123,7 @@ pub fn presence_of(pages: &[u16], wmap: u16, map: Map, address: u16, length: usi
 }
 
 // Where an access ends: protection is tested before presence.
+#[tactic(auto, unfolding(crate::specs::Pages::place, crate::specs::Pages::is_open, crate::specs::Pages::presence, crate::specs::Pages::spot))]
 pub fn place_of(
     pages: &[u16],
     wmap: u16,

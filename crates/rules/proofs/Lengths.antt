@@ -1,6 +1,6 @@
 -- How many words an instruction has, by the table of the codes and by the rules.
---     lengths       the table's length of a code is the number of words of the code's action
---     moves_on      an action that is completed and is no jump leaves P past its words, or past one or two words more
+--     lengths          the table's length of a code is the number of words of the code's action
+--     moves_on         an action that is completed and is no jump leaves P past its words, or past one or two words more
 --     code_moves_on    so a code that is completed leaves P past as many words as the table has
 -- Where JMP and JSB lead is their rule's own. Assumes nothing.
 use Prim.Native.Nat.{ℕ, zero-le, zero, suc, ◌+◌, ◌≤◌}

@@ -1,6 +1,6 @@
 -- The program of a step keeps the record valid, and where a step replies 0 it keeps WMAP.
---     moved-valid .. interrupted-valid            records that stay valid
---     moved-sound .. step-act-sound               the program of each action, and of a step, keeps validity and WMAP
+--     moved_valid .. interrupted_valid            records that stay valid
+--     moved_sound .. step_act_sound               the program of each action, and of a step, keeps validity and WMAP
 --     After, step_sound                           so of the registers after a step
 --     step_valid                                  which are valid
 -- A good call is the machine's. Assumes nothing.

@@ -1,6 +1,6 @@
 -- The rule of each instruction, and of a step: what 01's section "Instructions built" says, in its order.
 --     memory_way, memory_word                memory reference
---     dataMap, arithmeticWay .. extendedAction    the extended codes
+--     data_map, arithmetic_way .. extended_action    the extended codes
 --     action, act, rule                    what an instruction asks for, its accesses, and both
 --     action_words, jumping                 how many words an action's instruction has, and whether P leaves their order
 --     holds, trap_rule                      the word of a trap cell

@@ -1,6 +1,6 @@
 -- How a byte store ends, by where one access that is both a read and a store ends: the tests of `byte_stored` fall together.
---     ended          the result for each place
---     by_tests       over the tests as Booleans
+--     ended              the result for each place
+--     by_tests           over the tests as Booleans
 --     byte_stored_lem    `exec` of `byte_stored`
 -- Assumes nothing.
 use Rattle.std.proofs.Common.{◌≡◌, ℕ, ◌%◌, Bool, true, false, cond, not, ◌&&◌, ◌||◌, eqb, ltb, List, length, get_or, set, refl, ◌∙◌}

@@ -16,7 +16,7 @@ use Rattle.strings.proofs.strings.count_at.Kinds as count_at
 use Rattle.strings.proofs.strings.count_at.Reads as count_at_reads
 use Rattle.strings.proofs.strings.load_byte.Kinds as load_byte
 use Rattle.strings.proofs.strings.load_byte.Reads as load_byte_reads
-use Rattle.strings.proofs.strings.store_byte.Kinds as IsStoreByte
+use Rattle.strings.proofs.strings.store_byte.Kinds as store_byte_kinds
 use Rattle.strings.proofs.strings.store_byte.Reads as store_byte_reads
 use Rattle.strings.proofs.strings.compare_strings.Kinds as compare_strings
 use Rattle.strings.proofs.strings.compare_strings.Reads as compare_strings_reads
@@ -45,7 +45,7 @@ count_at_tight κs a x y s t p q = gives_tight x y p q
 pub load_byte_tight : OneResult 2 load_byte.ps load_byte.r load_byte_reads.Post
 load_byte_tight κs a x y s t p q = (ends_tight p q).0
 
-pub store_byte_tight : OneMemory 2 IsStoreByte.ps IsStoreByte.r store_byte_reads.Post (λ κs s. s.1.1.0.now)
+pub store_byte_tight : OneMemory 2 store_byte_kinds.ps store_byte_kinds.r store_byte_reads.Post (λ κs s. s.1.1.0.now)
 store_byte_tight κs a x y s t p q = ends_tight p q
 
 pub compare_strings_tight : OneResult 2 compare_strings.ps compare_strings.r compare_strings_reads.Post

@@ -1,8 +1,8 @@
 -- Elements of memory copied to others, by their places in memory: what the functions of `src/moves.rt` promise each other.
 -- Words are counted by their index; bytes two to a word, the high one first. No rule cites this.
---     per_page, Stretch                            the elements of a page; a stretch of elements on one page
---     place_in, index_of, places_in              places: of an address, a word, a memory
---     carried, copies                         one element copied; several, one after another
+--     per_page, Stretch                the elements of a page; a stretch of elements on one page
+--     place_in, index_of, places_in    places: of an address, a word, a memory
+--     carried, copies                  one element copied; several, one after another
 -- Assumes nothing.
 use Rattle.std.specs.Prelude.{ℕ, zero, suc, ◌+◌, ◌*◌, ◌/◌, ◌%◌, ◌<◌, ◌≤◌, List, length, slice_index, slice_set}
 use Rattle.word.specs.Words.{byte_of, with_byte}

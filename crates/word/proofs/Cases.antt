@@ -1,7 +1,7 @@
 -- The numbers of 01's cases that this layer fixes, by computation, in 01's order: C1, C2, C6 to C11, C13. What E, O and the
 -- registers keep in them is the step's and is not here. Then the ends of the ranges:
 --     exchanged                                          a rotate by 16 exchanges B and A
---     lowest-by-negative .. below-lowest-by-negative     the quotients -32,768 and 32,767, and those past them
+--     lowest_by_negative .. below_lowest_by_negative     the quotients -32,768 and 32,767, and those past them
 --     lowest_double, by_zero                             -2,147,483,648 by -1; divisor 0
 -- Last, for the definitions that no case above meets, values that tell them from near misses. Assumes nothing.
 use Rattle.std.proofs.Common.{◌≡◌, ℕ, Bool, true, false, eqb, [], ◌∷◌, map, pos, negsuc, refl, ap, w16, w32}

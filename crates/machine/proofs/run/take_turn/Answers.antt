@@ -12,4 +12,4 @@ pub returns-then-n-eq1 : goal.returns-then-n-eq1
 returns-then-n-eq1 c = (omega arith, λ left. going_out c.args.pages.now c.args.r c.args.memory.now c.requires c.fetch-t.result _ c.fetch-t.ensures left (rw (← c.number_of-n.ensures) (ne_eqb _ _ c.if-n-eq0.false)) ∙ rw (← c.number_of-n.ensures, eq-eqb _ _ c.if-n-eq1.true))
 
 pub returns : goal.returns
-returns c = (omega arith, λ left. going_out c.args.pages.now c.args.r c.args.memory.now c.requires c.fetch-t.result _ c.fetch-t.ensures left (rw (← c.number_of-n.ensures) (ne_eqb _ _ c.if-n-eq0.false)) ∙ rw (← c.number_of-n.ensures, ne_eqb _ _ c.if-n-eq1.false))
+returns c = (omega arith, λ left. going_out c.args.pages.now c.args.r c.args.memory.now c.requires c.fetch-t.result _ c.fetch-t.ensures left (rw (← c.number_of-n.ensures) (ne_eqb _ _ c.if-n-eq0.false)) ∙ rw (← c.number_of-n.ensures, ne_eqb c.number_of-n.result 1 (λ one. absurd (omega arith))))

@@ -1,7 +1,7 @@
 -- The machine reads a value back from its bits: `z_read`, `k_read`, `q_read` and `r_read` say that it reads the value.
 -- Assumes nothing.
-use Rattle.std.proofs.Common.{◌≡◌, true, ℤ, ◌∙◌, arith, w16, w32, to_z, of_z, ltb-true, lt-ltb}
-use lib.Signed.{quot_z, rem_z, mag_rem}
+use Rattle.std.proofs.Common.{◌≡◌, true, false, ℤ, pos, negsuc, rules, ◌∙◌, arith, w16, w32, to_z, of_z, ltb-true, lt-ltb}
+use lib.Signed.{lt_z, quot_z, rem_z, mag_rem}
 use mir.ValLaws.{to_z-of_z, sfits_le}
 use Rattle.word.specs.Signed.{within}
 use Rattle.word.proofs.Signed.{too_low, too_high, between, some_bit, wider, read_wider}
@@ -42,13 +42,12 @@ pub returns-then-q-gt32767 : goal.returns-then-q-gt32767
 returns-then-q-gt32767 c =
     let start = c.before.before in rw (too_high w16 (quotient start) _ (rw (q_read start) at c.if-q-gt32767.true) (omega arith))
 
-inside : (c : goal.Else-q-gt32767) → within w16 (quotient c.before.before) ≡ true
-inside c =
-    let start = c.before.before in
-    between w16 (quotient start) _ _ (rw (q_read start) at c.if-q-ltminus32768.false) (rw (q_read start) at c.if-q-gt32767.false) (omega arith) (omega arith)
+-- what neither test refused fits a word
+fits_word : (q : ℤ) → lt_z q (negsuc 32767) ≡ false → lt_z (pos 32767) q ≡ false → within w16 q ≡ true
+fits_word q low high = between w16 q _ _ low high (omega arith) (omega arith)
 
 pub word_of-requires : goal.word_of-requires
-word_of-requires c = rw (q_read c.before.before) (inside c)
+word_of-requires c = search (rules, fits_word)
 
 pub nonzero_rem-z : goal.nonzero_rem-z
 nonzero_rem-z c = nonzero_div-q c.before.before.before
@@ -61,4 +60,4 @@ word_of-requires-2 c =
 pub returns : goal.returns
 returns c =
     let start = c.before.before.before.before in
-    rw (inside c.before.before, c.word_of.ensures, c.word_of-2.ensures, q_read start, r_read start)
+    rw (rw (q_read start) at (word_of-requires c.before.before), c.word_of.ensures, c.word_of-2.ensures, q_read start, r_read start)
