@@ -3,10 +3,11 @@
 --     puts_holding    bytes put at the end of a text that has room for them
 --     one_digit       a number below 10 is put as its digit
 --     more_digits     another number is its digits but the last, and that digit behind them
+--     fewest          the digits of specs/Text are the last digits of the number, as many as it has
 --     most_digits     a number below 10 ^ k has up to k digits, k not 0
 -- Assumes nothing.
-use Rattle.std.proofs.Common.{◌≡◌, refl, ℕ, zero, suc, ◌+◌, ◌/◌, ◌%◌, ◌^◌, ◌<◌, ◌≤◌, Bool, true, false, cond, List, [], ◌∷◌, ◌++◌, length, drop, replicate, arith, add-one}
-use Rattle.std.proofs.Math.Nat.{pow-suc}
+use Rattle.std.proofs.Common.{◌≡◌, refl, ℕ, zero, suc, ◌+◌, ◌-◌, ◌/◌, ◌%◌, ◌^◌, ◌<◌, ◌≤◌, Bool, true, false, cond, List, [], ◌∷◌, ◌++◌, length, drop, replicate, arith, add-one}
+use Rattle.std.proofs.Math.Nat.{pow-suc, one-le-pow, mod-eq_of_lt}
 use Rattle.std.proofs.Math.Dec.{ltb}
 use Rattle.std.proofs.Math.ListN.{set}
 use Rattle.std.proofs.Math.Seq.{drop-cons, set-append_seam}
@@ -56,6 +57,35 @@ pub more_digits : (t : Text) (n : ℕ) → 10 ≤ n → put (puts t (decimal_dig
 unfolding digits_within puts
 more_digits t n h =
     rw (le-ltb n 10 h, enough n (suc (n / 10)) (n / 10) (omega arith) (omega arith), puts_more t) refl
+
+-- the last k digits of n in base b, as their bytes, the most significant first
+abbrev last_digits : ℕ → ℕ → ℕ → List ℕ
+last_digits b zero n = []
+last_digits b (suc k) n = last_digits b k (n / b) ++ (cond (ltb (n % b) 10) (48 + n % b) (87 + n % b) ∷ [])
+
+-- n takes k digits in base b, when padded to `width` digits
+abbrev IsDigitCount : ℕ → ℕ → ℕ → ℕ → Type 0
+IsDigitCount b width n k = (width ≤ k) × (n < b ^ k) × (width < k → b ^ (k - 1) ≤ n)
+
+spelled : (k f n : ℕ) → n < f → n < 10 ^ suc k → (0 < k → 10 ^ k ≤ n) → last_digits 10 (suc k) n ≡ digits_within f n
+unfolding digits_within
+spelled k zero n h u l = absurd (omega arith)
+spelled zero (suc f) n h u l = rw (mod-eq_of_lt u, lt-ltb n 10 u) refl
+spelled (suc k) (suc f) n h u l =
+    let low : 10 ^ suc k ≤ n = l (omega arith) in
+    let ten : 10 ≤ n = omega (arith, pow-suc 10 k, one-le-pow k 10 (omega arith)) in
+    rw (
+      le-ltb n 10 ten,
+      lt-ltb (n % 10) 10 (omega arith),
+      ← spelled k f (n / 10) (omega arith) (omega (arith, pow-suc 10 (suc k))) (λ z. omega (arith, pow-suc 10 k)),
+    )
+    refl
+
+pub fewest : (k n : ℕ) → IsDigitCount 10 1 n k → last_digits 10 k n ≡ decimal_digits n
+fewest zero n e = absurd (omega arith)
+fewest (suc k) n e =
+    let last : suc k - 1 ≡ k = omega arith in
+    spelled k (suc n) n (omega arith) e.1 (λ z. rw last at (e.2 (omega arith)))
 
 either : (b : Bool) (x y : List ℕ) (k : ℕ) → length x ≤ k → length y ≤ k → length (cond b x y) ≤ k
 either true x y k p q = p
