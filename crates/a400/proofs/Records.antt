@@ -8,7 +8,7 @@ use mathlib.Core.Path.{◌≡◌, refl}
 use mathlib.Core.List.{List, [], ◌∷◌}
 use lib.ListN.{length, set}
 use Rattle.acts.specs.Replies.{number}
-use Rattle.acts.specs.Acts.{Result, done, violated, refused, bad_call, answer, left}
+use Rattle.acts.specs.Acts.{Outcome, done, violated, refused, bad_call, answer, left}
 use Rattle.machine.specs.Step.{stepped}
 use Rattle.acts.specs.declared.record.Registers.{Registers}
 use Rattle.acts.specs.declared.record.Taken.{Taken}
@@ -23,7 +23,7 @@ one_number (x ∷ []) v h = refl
 one_number (x ∷ y ∷ l) v h = absurd (omega arith)
 
 module _ (w pages m : List ℕ) where
-  of_result : (r : Registers) → words_of r ≡ w → (x : Result) → 2 ≤ number (answer r x).reply
+  of_result : (r : Registers) → words_of r ≡ w → (x : Outcome) → 2 ≤ number (answer r x).reply
       → (words_of (answer r x).registers ≡ w) × (left m x ≡ m)
   of_result r e (done s n) h = absurd (omega arith)
   of_result r e violated h = absurd (omega arith)

@@ -16,13 +16,12 @@ use Rattle.maps.proofs.Laws.{chain_address}
 use Rattle.maps.specs.declared.pages.Purpose.{Purpose}
 use Rattle.maps.specs.declared.pages.Place.{Place}
 use Rattle.maps.specs.declared.troubles.Trouble.{Trouble}
-use Rattle.maps.specs.declared.troubles.Got.{Got}
-use Rattle.maps.specs.declared.troubles.Tested.{Tested}
 use Rattle.acts.specs.Record.{with_a, with_b}
 use Rattle.acts.specs.Acts.{Act, fin, stop, violate, load, save, follow, opened, present}
-use Rattle.acts.specs.Acts.{Result, done, violated, refused, bad_call, troubled, on_got, on_place, on_open, on_tested, exec, left}
+use Rattle.acts.specs.Acts.{Outcome, done, violated, refused, bad_call, troubled, on_got, on_place, on_open, on_tested, exec, left}
 use Rattle.acts.specs.declared.record.Registers.{Registers}
 use Rattle.acts.specs.declared.replies.Refusal.{Refusal}
+use Rattle.std.specs.Prelude.{Result, Ok, Err}
 
 -- with D of the registers while a program runs, every ending gives registers with A; a chain's address has 15 bits
 abbrev pub Leads : (Registers → Type 0) → (Registers → Type 0) → Act → Type 0
@@ -40,7 +39,7 @@ abbrev pub Keeps : (Registers → Type 0) → Act → Type 0
 Keeps R act = Leads R R act
 
 -- what stores keep, of registers and of memory, and what follows of the result
-pub record Carrying (D A : Registers → Type 0) (M : List ℕ → Type 0) (P : Result → Type 0) : Type 0 where
+pub record Carrying (D A : Registers → Type 0) (M : List ℕ → Type 0) (P : Outcome → Type 0) : Type 0 where
   pub in_a : (r : Registers) (v : ℕ) → D r → D (with_a r v)
   pub in_b : (r : Registers) (v : ℕ) → D r → D (with_b r v)
   pub in_memory : (m : List ℕ) (i v : ℕ) → M m → M (set m i v)
@@ -48,34 +47,34 @@ pub record Carrying (D A : Registers → Type 0) (M : List ℕ → Type 0) (P : 
   pub violation : P violated
   pub refusal : (refusal : Refusal) → P (refused refusal)
 
-abbrev pub Carries : (Registers → Type 0) → (List ℕ → Type 0) → (Result → Type 0) → Type 0
+abbrev pub Carries : (Registers → Type 0) → (List ℕ → Type 0) → (Outcome → Type 0) → Type 0
 Carries R M P = Carrying R R M P
 
-module _ {D A : Registers → Type 0} {M : List ℕ → Type 0} {P : Result → Type 0} (h : Carrying D A M P) where
+module _ {D A : Registers → Type 0} {M : List ℕ → Type 0} {P : Outcome → Type 0} (h : Carrying D A M P) where
   at_trouble : (t : Trouble) → P (troubled t)
   at_trouble Trouble.Closed = h.violation
   at_trouble (Trouble.Absent page) = h.refusal _
   at_trouble Trouble.Endless = h.refusal _
   at_trouble Trouble.InRegisters = h.refusal _
 
-  at_got : (x : Got) (k : ℕ → Result) → ((v : ℕ) → x ≡ Got.Value v → P (k v)) → P (on_got x k)
-  at_got (Got.Value v) k on = on v refl
-  at_got (Got.Ends t) k on = at_trouble t
+  at_got : (x : Result ℕ Trouble) (k : ℕ → Outcome) → ((v : ℕ) → x ≡ Ok v → P (k v)) → P (on_got x k)
+  at_got (Ok v) k on = on v refl
+  at_got (Err t) k on = at_trouble t
 
-  at_place : (x : Place) (v : ℕ) (k : Registers → List ℕ → Result) (r : Registers) (m : List ℕ)
+  at_place : (x : Result Place Trouble) (v : ℕ) (k : Registers → List ℕ → Outcome) (r : Registers) (m : List ℕ)
       → ((s : Registers) (n : List ℕ) → D s → M n → P (k s n)) → D r → M m → P (on_place x v k r m)
-  at_place Place.A v k r m on p q = on (with_a r v) m (h.in_a r v p) q
-  at_place Place.B v k r m on p q = on (with_b r v) m (h.in_b r v p) q
-  at_place (Place.Memory i) v k r m on p q = on r (set m i v) p (h.in_memory m i v q)
-  at_place (Place.Ends t) v k r m on p q = at_trouble t
+  at_place (Ok Place.A) v k r m on p q = on (with_a r v) m (h.in_a r v p) q
+  at_place (Ok Place.B) v k r m on p q = on (with_b r v) m (h.in_b r v p) q
+  at_place (Ok (Place.Memory i)) v k r m on p q = on r (set m i v) p (h.in_memory m i v q)
+  at_place (Err t) v k r m on p q = at_trouble t
 
-  at_open : (b : Bool) (x : Result) → P x → P (on_open b x)
+  at_open : (b : Bool) (x : Outcome) → P x → P (on_open b x)
   at_open true x on = on
   at_open false x on = h.violation
 
-  at_tested : (p : Tested) (x : Result) → P x → P (on_tested p x)
-  at_tested Tested.Sound x on = on
-  at_tested (Tested.Ends t) x on = at_trouble t
+  at_tested : (p : Result Unit Trouble) (x : Outcome) → P x → P (on_tested p x)
+  at_tested (Ok tt) x on = on
+  at_tested (Err t) x on = at_trouble t
 
   pub exec_holds : (pages : List ℕ) (act : Act) → Leads D A act → (r : Registers) (m : List ℕ) → D r → M m → P (exec pages act r m)
   unfolding exec
@@ -127,7 +126,7 @@ exec_length pages act r m s n e = rw e at (left_length pages act r m)
 
 -- The result of a program is no bad call.
 
-abbrev pub Fair : Result → Type 0
+abbrev pub Fair : Outcome → Type 0
 Fair (done s m) = Unit
 Fair violated = Unit
 Fair (refused refusal) = Unit

@@ -28,7 +28,7 @@ use Rattle.acts.specs.Acts.{Act, fin, load, save, follow, done, on_place, exec, 
 use Rattle.acts.specs.declared.record.Registers.{Registers}
 use Rattle.acts.specs.declared.replies.Stepped.{Stepped}
 use Rattle.maps.specs.declared.troubles.Trouble.{Trouble}
-use Rattle.maps.specs.declared.troubles.Got.{Got}
+use Rattle.std.specs.Prelude.{Result, Ok, Err}
 
 stays : (m : List ℕ) (t : Trouble) → m ≡ left m (troubled t)
 stays m Trouble.Closed = refl
@@ -40,7 +40,7 @@ pub stopping : {r : Registers} {m : List ℕ} (t : Trouble) {s : Stepped} → s 
 stopping {m = m} t e = record { outcome = e; memory = stays m t }
 
 -- what the two reading functions of `maps` promise
-module _ {pages : List ℕ} {r : Registers} {m : List ℕ} {g : Got} where
+module _ {pages : List ℕ} {r : Registers} {m : List ℕ} {g : Result ℕ Trouble} where
   pub reads : {map : Map} {at : ℕ} → g ≡ fetched pages m r.wmap map at r.a r.b → Gives pages (load map at) r m g
   unfolding exec
   reads e = record { goes = λ k. rw e refl }
@@ -49,17 +49,17 @@ module _ {pages : List ℕ} {r : Registers} {m : List ℕ} {g : Got} where
   unfolding exec
   chases e = record { goes = λ k. rw e refl }
 
-module _ {pages : List ℕ} {part : (ℕ → Act) → Act} {r : Registers} {m : List ℕ} {g : Got} (h : Gives pages part r m g) where
-  pub had_value : {v : ℕ} → g ≡ Got.Value v → (k : ℕ → Act) → exec pages (part k) r m ≡ exec pages (k v) r m
+module _ {pages : List ℕ} {part : (ℕ → Act) → Act} {r : Registers} {m : List ℕ} {g : Result ℕ Trouble} (h : Gives pages part r m g) where
+  pub had_value : {v : ℕ} → g ≡ Ok v → (k : ℕ → Act) → exec pages (part k) r m ≡ exec pages (k v) r m
   had_value e k = rw e at (h.goes k)
 
-  pub had_on : {v : ℕ} {s : Stepped} {n : List ℕ} → g ≡ Got.Value v → (k : ℕ → Act) → Performs pages (k v) r m s n → Performs pages (part k) r m s n
+  pub had_on : {v : ℕ} {s : Stepped} {n : List ℕ} → g ≡ Ok v → (k : ℕ → Act) → Performs pages (k v) r m s n → Performs pages (part k) r m s n
   had_on e k h = rw (had_value e k) h
 
-  pub had_trouble : {t : Trouble} → g ≡ Got.Ends t → (k : ℕ → Act) → exec pages (part k) r m ≡ troubled t
+  pub had_trouble : {t : Trouble} → g ≡ Err t → (k : ℕ → Act) → exec pages (part k) r m ≡ troubled t
   had_trouble e k = rw e at (h.goes k)
 
-  pub had_stop : {t : Trouble} {s : Stepped} → g ≡ Got.Ends t → s ≡ answer r (troubled t) → (k : ℕ → Act) → Performs pages (part k) r m s m
+  pub had_stop : {t : Trouble} {s : Stepped} → g ≡ Err t → s ≡ answer r (troubled t) → (k : ℕ → Act) → Performs pages (part k) r m s m
   had_stop {t = t} e f k = rw (had_trouble e k) (stopping t f)
 
 pub direct : (pages m : List ℕ) (r : Registers) (word : ℕ) (k : ℕ → Act) → word < 0o100000
@@ -74,19 +74,19 @@ pub record Leads (pages : List ℕ) (r : Registers) (m : List ℕ) (at to : ℕ)
   pub goes : (k : ℕ → Act) → exec pages (follow at k) r m ≡ exec pages (k to) r m
 
 module _ (pages : List ℕ) (r : Registers) (m : List ℕ) (at : ℕ) {to : ℕ} where
-  pub by_chain : {g : Got} {v : ℕ} → Gives pages (follow at) r m g → g ≡ Got.Value v → to ≡ v → Leads pages r m at to
+  pub by_chain : {g : Result ℕ Trouble} {v : ℕ} → Gives pages (follow at) r m g → g ≡ Ok v → to ≡ v → Leads pages r m at to
   by_chain gives f e = rw e (record { goes = λ k. had_value gives f k })
 
   pub by_itself : at < 0o100000 → to ≡ at → Leads pages r m at to
   by_itself h e = rw e (record { goes = λ k. direct pages m r at k h })
 
-placed : (f : Registers → Registers) (r : Registers) (m : List ℕ) (v : ℕ) (p : Place)
+placed : (f : Registers → Registers) (r : Registers) (m : List ℕ) (v : ℕ) (p : Result Place Trouble)
     → f (with_a r v) ≡ with_a (f r) v → f (with_b r v) ≡ with_b (f r) v
     → on_place p v (λ s n. done (f s) n) r m ≡ on_place p v (λ s n. done s n) (f r) m
-placed f r m v Place.A a b = rw a
-placed f r m v Place.B a b = rw b
-placed f r m v (Place.Memory i) a b = refl
-placed f r m v (Place.Ends t) a b = refl
+placed f r m v (Ok Place.A) a b = rw a
+placed f r m v (Ok Place.B) a b = rw b
+placed f r m v (Ok (Place.Memory i)) a b = refl
+placed f r m v (Err t) a b = refl
 
 pub saved : (pages : List ℕ) (map : Map) (at v : ℕ) (k : Act) (r : Registers) (m : List ℕ)
     → exec pages (save map at v k) r m

@@ -14,11 +14,10 @@ use mathlib.Core.Path.{◌≡◌, refl, sym, ◌∙◌, ap}
 use mathlib.Core.List.{List}
 use Rattle.word.proofs.Tight.{OneResult}
 use Rattle.acts.specs.Record.{with_a}
-use Rattle.acts.specs.Acts.{Act, fin, violate, Result, done, violated, refused, bad_call, exec, troubled, Ends, Gives}
+use Rattle.acts.specs.Acts.{Act, fin, violate, Outcome, done, violated, refused, bad_call, exec, troubled, Ends, Gives}
 use Rattle.acts.specs.declared.record.Registers.{Registers}
 use Rattle.acts.specs.declared.replies.Stepped.{Stepped}
 use Rattle.maps.specs.declared.troubles.Trouble.{Trouble}
-use Rattle.maps.specs.declared.troubles.Got.{Got}
 use Rattle.acts.specs.declared.replies.Refusal.{Refusal}
 use Rattle.acts.proofs.replies.number_of.Kinds as number_of_lem
 use Rattle.acts.proofs.replies.number_of.Reads as number_of_reads
@@ -64,23 +63,24 @@ use Rattle.acts.proofs.stores.put_last.Kinds as put_last
 use Rattle.acts.proofs.stores.put_last.Reads as put_last_reads
 use Rattle.acts.proofs.stores.put.Kinds as put
 use Rattle.acts.proofs.stores.put.Reads as put_reads
+use Rattle.std.specs.Prelude.{Result, Ok, Err}
 
 abbrev pub OneMemory : (n : ℕ) (ps : List (ParamKind n)) (r : ResultKind n) → Out n ps r → ((κs : Lfts n) → AtExit (ended_of n ps r) κs → List ℕ) → Type 0
 OneMemory n ps r Post memory =
     (κs : Lfts n) (a : Dens κs ps) (x y : (res_t r κs).Denot) (s t : AtExit (ended_of n ps r) κs)
     → Post κs a x s → Post κs a y t → (x ≡ y) × (memory κs s ≡ memory κs t)
 
-pub ends_tight : {r : Registers} {m : List ℕ} {result : Result} {x y : Stepped} {n k : List ℕ}
+pub ends_tight : {r : Registers} {m : List ℕ} {result : Outcome} {x y : Stepped} {n k : List ℕ}
     → Ends r m result x n → Ends r m result y k → (x ≡ y) × (n ≡ k)
 ends_tight p q = (p.outcome ∙ sym q.outcome, p.memory ∙ sym q.memory)
 
-abbrev in_a : Result → ℕ
+abbrev in_a : Outcome → ℕ
 in_a (done s m) = s.a
 in_a violated = 0
 in_a (refused refusal) = 0
 in_a bad_call = 0
 
-abbrev is_done : Result → ℕ
+abbrev is_done : Outcome → ℕ
 is_done (done s m) = 1
 is_done violated = 0
 is_done (refused refusal) = 0
@@ -101,7 +101,7 @@ refused_by Refusal.InRegisters = Trouble.InRegisters
 refused_by Refusal.NotBuilt = Trouble.Closed
 refused_by Refusal.TrapCell = Trouble.Closed
 
-abbrev ended_by : Result → Trouble
+abbrev ended_by : Outcome → Trouble
 ended_by (done s m) = Trouble.Closed
 ended_by violated = Trouble.Closed
 ended_by (refused refusal) = refused_by refusal
@@ -114,24 +114,24 @@ told Trouble.Endless = refl
 told Trouble.InRegisters = refl
 
 unlike : {pages : List ℕ} {part : (ℕ → Act) → Act} {r : Registers} {m : List ℕ} {X : Type 0} (v : ℕ) (t : Trouble)
-    → Gives pages part r m (Got.Value v) → Gives pages part r m (Got.Ends t) → X
+    → Gives pages part r m (Ok v) → Gives pages part r m (Err t) → X
 unfolding exec
 unlike v t p q =
     let k : ℕ → Act = λ w. fin (λ s. s) in
     let e = ap is_done (sym (p.goes k) ∙ q.goes k) ∙ not_done t in
     absurd (omega (arith, e))
 
-pub gives_tight : {pages : List ℕ} {part : (ℕ → Act) → Act} {r : Registers} {m : List ℕ} (g g' : Got)
+pub gives_tight : {pages : List ℕ} {part : (ℕ → Act) → Act} {r : Registers} {m : List ℕ} (g g' : Result ℕ Trouble)
     → Gives pages part r m g → Gives pages part r m g' → g ≡ g'
 unfolding exec
-gives_tight (Got.Value v) (Got.Value v') p p' =
+gives_tight (Ok v) (Ok v') p p' =
     let k : ℕ → Act = λ w. fin (λ t. with_a t w) in
-    ap Got.Value (ap in_a (sym (p.goes k) ∙ p'.goes k))
-gives_tight (Got.Value v) (Got.Ends t) p p' = unlike v t p p'
-gives_tight (Got.Ends t) (Got.Value v) p p' = unlike v t p' p
-gives_tight (Got.Ends t) (Got.Ends t') p p' =
+    ap Ok (ap in_a (sym (p.goes k) ∙ p'.goes k))
+gives_tight (Ok v) (Err t) p p' = unlike v t p p'
+gives_tight (Err t) (Ok v) p p' = unlike v t p' p
+gives_tight (Err t) (Err t') p p' =
     let e = sym (p.goes (λ _. violate)) ∙ p'.goes (λ _. violate) in
-    ap Got.Ends (sym (told t) ∙ ap ended_by e ∙ told t')
+    ap Err (sym (told t) ∙ ap ended_by e ∙ told t')
 
 pub number_of_tight : OneResult 0 number_of_lem.ps number_of_lem.r number_of_reads.Post
 number_of_tight κs a x y s t p q = p ∙ sym q

@@ -1,6 +1,6 @@
 -- What a rule is: a small program over logical addresses, and how one is run.
 --     Act                the program: each access in its order, and how it ends
---     Result             what running one gives
+--     Outcome             what running one gives
 --     exec               running one from registers and memory; page registers are only read
 --     go_on              completed, with P elsewhere
 --     operand            the address that an address word after the instruction's first leads to
@@ -17,13 +17,12 @@ use Rattle.maps.specs.declared.pages.Map.{Map}
 use Rattle.maps.specs.declared.pages.Purpose.{Purpose}
 use Rattle.maps.specs.declared.pages.Place.{Place}
 use Rattle.maps.specs.declared.troubles.Trouble.{Trouble}
-use Rattle.maps.specs.declared.troubles.Got.{Got}
-use Rattle.maps.specs.declared.troubles.Tested.{Tested}
 use Rattle.acts.specs.Record.{with_a, with_b, with_p, interrupted}
 use Rattle.acts.specs.declared.record.Registers.{Registers}
 use Rattle.acts.specs.declared.replies.Refusal.{Refusal}
 use Rattle.acts.specs.declared.replies.Reply.{Reply}
 use Rattle.acts.specs.declared.replies.Stepped.{Stepped}
+use Rattle.std.specs.Prelude.{Result, Ok, Err}
 
 pub data Act : Type 0 where
   -- completed: the registers that follow
@@ -43,39 +42,39 @@ pub data Act : Type 0 where
   present : Map → ℕ → Act → Act
 
 -- a call that is no good has no program, and its result is named here with the others
-pub data Result : Type 0 where
-  done : Registers → List ℕ → Result
-  violated : Result
-  refused : Refusal → Result
-  bad_call : Result
+pub data Outcome : Type 0 where
+  done : Registers → List ℕ → Outcome
+  violated : Outcome
+  refused : Refusal → Outcome
+  bad_call : Outcome
 
 -- 01: a closed page is a violation, any other trouble a refusal
-abbrev pub troubled : Trouble → Result
+abbrev pub troubled : Trouble → Outcome
 troubled Trouble.Closed = violated
 troubled (Trouble.Absent page) = refused (Refusal.Absent page)
 troubled Trouble.Endless = refused Refusal.Endless
 troubled Trouble.InRegisters = refused Refusal.InRegisters
 
-abbrev pub on_got : Got → (ℕ → Result) → Result
-on_got (Got.Value v) k = k v
-on_got (Got.Ends t) k = troubled t
+abbrev pub on_got : Result ℕ Trouble → (ℕ → Outcome) → Outcome
+on_got (Ok v) k = k v
+on_got (Err t) k = troubled t
 
 -- a store goes on with the registers and the memory that it leaves
-abbrev pub on_place : Place → ℕ → (Registers → List ℕ → Result) → Registers → List ℕ → Result
-on_place Place.A v k r m = k (with_a r v) m
-on_place Place.B v k r m = k (with_b r v) m
-on_place (Place.Memory i) v k r m = k r (set m i v)
-on_place (Place.Ends t) v k r m = troubled t
+abbrev pub on_place : Result Place Trouble → ℕ → (Registers → List ℕ → Outcome) → Registers → List ℕ → Outcome
+on_place (Ok Place.A) v k r m = k (with_a r v) m
+on_place (Ok Place.B) v k r m = k (with_b r v) m
+on_place (Ok (Place.Memory i)) v k r m = k r (set m i v)
+on_place (Err t) v k r m = troubled t
 
-abbrev pub on_open : Bool → Result → Result
+abbrev pub on_open : Bool → Outcome → Outcome
 on_open true k = k
 on_open false k = violated
 
-abbrev pub on_tested : Tested → Result → Result
-on_tested Tested.Sound k = k
-on_tested (Tested.Ends t) k = troubled t
+abbrev pub on_tested : Result Unit Trouble → Outcome → Outcome
+on_tested (Ok tt) k = k
+on_tested (Err t) k = troubled t
 
-unfoldable pub exec : List ℕ → Act → Registers → List ℕ → Result
+unfoldable pub exec : List ℕ → Act → Registers → List ℕ → Outcome
 exec pages (fin f) r m = done (f r) m
 exec pages (stop refusal) r m = refused refusal
 exec pages violate r m = violated
@@ -94,21 +93,21 @@ abbrev pub operand : ℕ → Registers → (ℕ → Act) → Act
 operand n r k = load Map.Execute (address r.p n) (λ w. follow w k)
 
 -- 01, What a step replies, "Returned and left": a refusal leaves all as given, a violation the interrupt state
-abbrev pub answer : Registers → Result → Stepped
+abbrev pub answer : Registers → Outcome → Stepped
 answer r (done s m) = record { reply = Reply.Completed; registers = s }
 answer r violated = record { reply = Reply.Violation; registers = interrupted r }
 answer r (refused refusal) = record { reply = Reply.Refused refusal; registers = r }
 answer r bad_call = record { reply = Reply.BadCall; registers = r }
 
 -- "no memory word changed"; "all as given"
-abbrev pub left : List ℕ → Result → List ℕ
+abbrev pub left : List ℕ → Outcome → List ℕ
 left m (done s n) = n
 left m violated = m
 left m (refused refusal) = m
 left m bad_call = m
 
 -- what a function that carries out a program promises: its answer, and the memory that it leaves
-pub record Ends (r : Registers) (m : List ℕ) (result : Result) (s : Stepped) (n : List ℕ) : Type 0 where
+pub record Ends (r : Registers) (m : List ℕ) (result : Outcome) (s : Stepped) (n : List ℕ) : Type 0 where
   pub outcome : s ≡ answer r result
   pub memory : n ≡ left m result
 
@@ -117,5 +116,5 @@ Performs pages act r m s n = Ends r m (exec pages act r m) s n
 
 -- what a function that carries out the reading part of a program promises: however the program goes on, it does so with the
 -- value, or has ended
-pub record Gives (pages : List ℕ) (part : (ℕ → Act) → Act) (r : Registers) (m : List ℕ) (g : Got) : Type 0 where
+pub record Gives (pages : List ℕ) (part : (ℕ → Act) → Act) (r : Registers) (m : List ℕ) (g : Result ℕ Trouble) : Type 0 where
   pub goes : (k : ℕ → Act) → exec pages (part k) r m ≡ on_got g (λ v. exec pages (k v) r m)

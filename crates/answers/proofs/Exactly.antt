@@ -11,7 +11,7 @@ use lib.Dec.{eqb, leb}
 use lib.ListN.{length}
 use Rattle.word.specs.Words.{weight}
 use Rattle.code.proofs.Truth.{never}
-use Rattle.acts.specs.Acts.{Result, done, violated, refused, bad_call, answer, left}
+use Rattle.acts.specs.Acts.{Outcome, done, violated, refused, bad_call, answer, left}
 use Rattle.acts.specs.Replies.{number}
 use Rattle.machine.specs.Step.{good_call, stepped, Leaves, ending, counting, after, running, ran}
 use Rattle.acts.specs.declared.record.Registers.{Registers}
@@ -31,7 +31,7 @@ rule_refuses Refusal.InRegisters = (omega arith, omega arith)
 rule_refuses Refusal.NotBuilt = (omega arith, omega arith)
 rule_refuses Refusal.TrapCell = (omega arith, omega arith)
 
-ending_of : (r : Registers) (x : Result) → Fair x → Ending x (number (answer r x).reply)
+ending_of : (r : Registers) (x : Outcome) → Fair x → Ending x (number (answer r x).reply)
 ending_of r (done s n) t = completed s n refl
 ending_of r violated t = interrupted refl
 ending_of r (refused refusal) t = refused_with refusal refl
@@ -44,7 +44,7 @@ pub step_bad : StepBad
 unfolding stepped
 step_bad pages r m bad = rw bad
 
-below_eight : {x : Result} {n : ℕ} → Ending x n → n ≤ 7
+below_eight : {x : Outcome} {n : ℕ} → Ending x n → n ≤ 7
 below_eight (completed s n e) = omega arith
 below_eight (interrupted e) = omega arith
 below_eight (refused_with refusal e) = (rule_refuses refusal).1

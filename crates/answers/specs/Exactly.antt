@@ -7,7 +7,7 @@
 -- What each of 2 to 7 stands for is in the rules themselves: a rule names its reply where it stops.
 -- Assumes nothing.
 use Rattle.std.specs.Prelude.{ℕ, ◌≤◌, ◌≡◌, true, false, ◌&&◌, List, leb, length}
-use Rattle.acts.specs.Acts.{Result, done, violated, refused, answer}
+use Rattle.acts.specs.Acts.{Outcome, done, violated, refused, answer}
 use Rattle.acts.specs.Replies.{number}
 use Rattle.machine.specs.Step.{good_call, stepped, ran}
 use Rattle.acts.specs.declared.record.Registers.{Registers}
@@ -15,7 +15,7 @@ use Rattle.acts.specs.declared.replies.Refusal.{Refusal}
 use Rattle.acts.specs.declared.replies.Reply.{Reply}
 
 -- how a step ended, by its number
-pub data Ending (result : Result) : ℕ → Type 0 where
+pub data Ending (result : Outcome) : ℕ → Type 0 where
   completed : (s : Registers) (n : List ℕ) → result ≡ done s n → Ending result 0
   interrupted : result ≡ violated → Ending result 1
   refused_with : (refusal : Refusal) → result ≡ refused refusal → Ending result (number (Reply.Refused refusal))

@@ -9,7 +9,7 @@ use mathlib.Core.List.{List, []}
 use lib.Dec.{eqb, ltb}
 use Rattle.maps.specs.Pages.{protecting}
 use Rattle.maps.specs.Open.{Agree}
-use Rattle.acts.specs.Acts.{Result, done, violated, refused, bad_call, answer, left}
+use Rattle.acts.specs.Acts.{Outcome, done, violated, refused, bad_call, answer, left}
 use Rattle.acts.specs.Replies.{number}
 use Rattle.machine.specs.Step.{stepped, ran}
 use Rattle.acts.specs.declared.record.Registers.{Registers}
@@ -93,7 +93,7 @@ jobs_apart pages r q on on' disjoint budget budget' m =
       words = λ index o. run_keeps pages r on budget m index (disjoint (index / 1024) o);
     })
 
-trouble : (r : Registers) (m : List ℕ) (x : Result) → (number (answer r x).reply ≡ 0 → ⊥) → left m x ≡ m
+trouble : (r : Registers) (m : List ℕ) (x : Outcome) → (number (answer r x).reply ≡ 0 → ⊥) → left m x ≡ m
 trouble r m (done s n) h = absurd (h refl)
 trouble r m violated h = refl
 trouble r m (refused refusal) h = refl

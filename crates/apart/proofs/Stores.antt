@@ -22,10 +22,8 @@ use Rattle.maps.proofs.Laws.{put_length, put_either, put_elsewhere, put_agree, p
 use Rattle.maps.specs.declared.pages.Purpose.{Purpose}
 use Rattle.maps.specs.declared.pages.Place.{Place}
 use Rattle.maps.specs.declared.troubles.Trouble.{Trouble}
-use Rattle.maps.specs.declared.troubles.Got.{Got}
-use Rattle.maps.specs.declared.troubles.Tested.{Tested}
 use Rattle.acts.specs.Record.{with_a, with_b}
-use Rattle.acts.specs.Acts.{Act, fin, stop, violate, load, save, follow, opened, present, Result, done, violated, refused, bad_call, troubled, on_got, on_place, on_open, on_tested, exec, answer, left}
+use Rattle.acts.specs.Acts.{Act, fin, stop, violate, load, save, follow, opened, present, Outcome, done, violated, refused, bad_call, troubled, on_got, on_place, on_open, on_tested, exec, answer, left}
 use Rattle.acts.specs.Replies.{number}
 use Rattle.rules.specs.Rules.{step_act}
 use Rattle.machine.specs.Step.{good_call, stepped, Leaves, ending, counting, running, ran}
@@ -36,6 +34,7 @@ use Rattle.acts.specs.declared.replies.Stepped.{Stepped}
 use Rattle.acts.specs.declared.replies.Ran.{Ran}
 use Rattle.apart.specs.Alike.{Store, stored_by, Within, Kept}
 use Rattle.machine.proofs.Good.{step_stays}
+use Rattle.std.specs.Prelude.{Result, Ok, Err}
 
 -- Stores, one after another.
 
@@ -53,14 +52,14 @@ pub storing_agrees : (pages : List ℕ) (wmap : ℕ) (l : List Store) (m m' : Li
 unfolding stored_by
 storing_agrees pages wmap [] m m' agree = agree
 storing_agrees pages wmap (s ∷ l) m m' agree =
-    storing_agrees pages wmap l _ _ (put_agree pages wmap (Place.Memory s.index) m m' s.word agree)
+    storing_agrees pages wmap l _ _ (put_agree pages wmap (Ok (Place.Memory s.index)) m m' s.word agree)
 
 -- What they keep of two memories.
 
 one_kept : (pages : List ℕ) (wmap : ℕ) (s : Store) (m m' : List ℕ) → OpenToStore pages wmap (s.index / 1024)
     → Agree pages wmap m m' → Kept pages wmap m m' (set m s.index s.word) (set m' s.index s.word)
 one_kept pages wmap s m m' o agree =
-    let p : Place = Place.Memory s.index in
+    let p : Result Place Trouble = Ok (Place.Memory s.index) in
     record {
       size = put_length p m s.word;
       opens = put_agree pages wmap p m m' s.word agree;
@@ -71,7 +70,7 @@ one_kept pages wmap s m m' o agree =
       );
     }
   where
-    reopen : (index : ℕ) → Place.Memory s.index ≡ Place.Memory index → OpenToStore pages wmap (index / 1024)
+    reopen : (index : ℕ) → Ok (Place.Memory s.index) ≡ Ok (Place.Memory index) → OpenToStore pages wmap (index / 1024)
     reopen index e = let z : s.index ≡ index = cc in rw z at o
 
 then_kept : (pages : List ℕ) (wmap : ℕ) (m m' n n' o o' : List ℕ)
@@ -96,19 +95,19 @@ stores_kept pages wmap (s ∷ l) m m' h agree =
     then_kept pages wmap m m' _ _ _ _ first (stores_kept pages wmap l _ _ h.1 first.opens)
 
 -- a result that completes nothing
-abbrev pub Ended : Result → Type 0
+abbrev pub Ended : Outcome → Type 0
 Ended (done s m) = ⊥
 Ended violated = Unit
 Ended (refused refusal) = Unit
 Ended bad_call = Unit
 
-pub ended_left : (x : Result) (m : List ℕ) → Ended x → left m x ≡ m
+pub ended_left : (x : Outcome) (m : List ℕ) → Ended x → left m x ≡ m
 ended_left (done s n) m h = absurd h
 ended_left violated m h = refl
 ended_left (refused refusal) m h = refl
 ended_left bad_call m h = refl
 
-ended_number : (r : Registers) (x : Result) → Ended x → eqb (number (answer r x).reply) 0 ≡ false
+ended_number : (r : Registers) (x : Outcome) → Ended x → eqb (number (answer r x).reply) 0 ≡ false
 ended_number r (done s n) h = absurd h
 ended_number r violated h = refl
 ended_number r (refused Refusal.InputOutput) h = refl
@@ -120,13 +119,13 @@ ended_number r (refused Refusal.TrapCell) h = refl
 ended_number r bad_call h = refl
 
 -- The results of a program, over every memory that agrees with m on the open pages: one ending, and one list of stores.
-pub data Results (pages : List ℕ) (wmap : ℕ) (m : List ℕ) (k : List ℕ → Result) : Type 0 where
+pub data Results (pages : List ℕ) (wmap : ℕ) (m : List ℕ) (k : List ℕ → Outcome) : Type 0 where
   all_done : (s : Registers) (l : List Store) → Within pages wmap l
       → ((m' : List ℕ) → Agree pages wmap m m' → k m' ≡ done s (stored_by l m')) → Results pages wmap m k
-  all_ended : (x : Result) → Ended x → ((m' : List ℕ) → Agree pages wmap m m' → k m' ≡ x) → Results pages wmap m k
+  all_ended : (x : Outcome) → Ended x → ((m' : List ℕ) → Agree pages wmap m m' → k m' ≡ x) → Results pages wmap m k
 
 module _ (pages : List ℕ) (wmap : ℕ) (m : List ℕ) where
-  by_same : (k k' : List ℕ → Result) → ((m' : List ℕ) → Agree pages wmap m m' → k m' ≡ k' m') → Results pages wmap m k' → Results pages wmap m k
+  by_same : (k k' : List ℕ → Outcome) → ((m' : List ℕ) → Agree pages wmap m m' → k m' ≡ k' m') → Results pages wmap m k' → Results pages wmap m k
   by_same k k' e (all_done s l h f) = all_done s l h (λ m' a. e m' a ∙ f m' a)
   by_same k k' e (all_ended x h f) = all_ended x h (λ m' a. e m' a ∙ f m' a)
 
@@ -137,36 +136,36 @@ module _ (pages : List ℕ) (wmap : ℕ) (m : List ℕ) where
   on_trouble Trouble.Endless = all_ended (refused Refusal.Endless) tt (λ m' a. refl)
   on_trouble Trouble.InRegisters = all_ended (refused Refusal.InRegisters) tt (λ m' a. refl)
 
-  on_got_lem : (x : Got) (k : ℕ → List ℕ → Result) → ((w : ℕ) → Results pages wmap m (k w)) → Results pages wmap m (λ m'. on_got x (λ w. k w m'))
-  on_got_lem (Got.Value w) k h = h w
-  on_got_lem (Got.Ends t) k h = on_trouble t
+  on_got_lem : (x : Result ℕ Trouble) (k : ℕ → List ℕ → Outcome) → ((w : ℕ) → Results pages wmap m (k w)) → Results pages wmap m (λ m'. on_got x (λ w. k w m'))
+  on_got_lem (Ok w) k h = h w
+  on_got_lem (Err t) k h = on_trouble t
 
-  on_open_lem : (x : Bool) (k : List ℕ → Result) → Results pages wmap m k → Results pages wmap m (λ m'. on_open x (k m'))
+  on_open_lem : (x : Bool) (k : List ℕ → Outcome) → Results pages wmap m k → Results pages wmap m (λ m'. on_open x (k m'))
   on_open_lem true k h = h
   on_open_lem false k h = all_ended violated tt (λ m' a. refl)
 
-  on_tested_lem : (x : Tested) (k : List ℕ → Result) → Results pages wmap m k → Results pages wmap m (λ m'. on_tested x (k m'))
-  on_tested_lem Tested.Sound k h = h
-  on_tested_lem (Tested.Ends t) k h = on_trouble t
+  on_tested_lem : (x : Result Unit Trouble) (k : List ℕ → Outcome) → Results pages wmap m k → Results pages wmap m (λ m'. on_tested x (k m'))
+  on_tested_lem (Ok tt) k h = h
+  on_tested_lem (Err t) k h = on_trouble t
 
   -- the first store of a program, and those that follow
-  on_store : (index v : ℕ) (k : List ℕ → Result) → OpenToStore pages wmap (index / 1024)
+  on_store : (index v : ℕ) (k : List ℕ → Outcome) → OpenToStore pages wmap (index / 1024)
       → Results pages wmap (set m index v) k → Results pages wmap m (λ m'. k (set m' index v))
   unfolding stored_by
   on_store index v k o (all_done s l h f) =
-      all_done s (record { index = index; word = v } ∷ l) (o, h) (λ m' a. f (set m' index v) (put_agree pages wmap (Place.Memory index) m m' v a))
+      all_done s (record { index = index; word = v } ∷ l) (o, h) (λ m' a. f (set m' index v) (put_agree pages wmap (Ok (Place.Memory index)) m m' v a))
   on_store index v k o (all_ended x h f) =
-      all_ended x h (λ m' a. f (set m' index v) (put_agree pages wmap (Place.Memory index) m m' v a))
+      all_ended x h (λ m' a. f (set m' index v) (put_agree pages wmap (Ok (Place.Memory index)) m m' v a))
 
-  on_place_lem : (p : Place) (v : ℕ) (k : Registers → List ℕ → Result) (s : Registers)
-      → ((index : ℕ) → p ≡ Place.Memory index → OpenToStore pages wmap (index / 1024))
+  on_place_lem : (p : Result Place Trouble) (v : ℕ) (k : Registers → List ℕ → Outcome) (s : Registers)
+      → ((index : ℕ) → p ≡ Ok (Place.Memory index) → OpenToStore pages wmap (index / 1024))
       → Results pages wmap m (k (with_a s v)) → Results pages wmap m (k (with_b s v))
       → ((index : ℕ) → Results pages wmap (set m index v) (k s))
       → Results pages wmap m (λ m'. on_place p v k s m')
-  on_place_lem Place.A v k s o a b w = a
-  on_place_lem Place.B v k s o a b w = b
-  on_place_lem (Place.Memory index) v k s o a b w = on_store index v (k s) (o index refl) (w index)
-  on_place_lem (Place.Ends t) v k s o a b w = on_trouble t
+  on_place_lem (Ok Place.A) v k s o a b w = a
+  on_place_lem (Ok Place.B) v k s o a b w = b
+  on_place_lem (Ok (Place.Memory index)) v k s o a b w = on_store index v (k s) (o index refl) (w index)
+  on_place_lem (Err t) v k s o a b w = on_trouble t
 
 -- No instruction is looked at.
 pub exec_results : (pages : List ℕ) (act : Act) (s : Registers) (m : List ℕ) → protecting s.wmap ≡ true
@@ -180,7 +179,7 @@ exec_results pages (load map at k) s m on =
     (λ m' a. rw (fetched_agree pages s.wmap m m' map at s.a s.b on a))
     (on_got_lem pages s.wmap m (fetched pages m s.wmap map at s.a s.b) (λ w. exec pages (k w) s) (λ w. exec_results pages (k w) s m on))
 exec_results pages (save map at v k) s m on =
-    let p : Place = place pages s.wmap map Purpose.Store at (length m) in
+    let p : Result Place Trouble = place pages s.wmap map Purpose.Store at (length m) in
     by_same pages s.wmap m _ (λ m'. on_place p v (exec pages k) s m')
     (λ m' a. rw a.lengths)
     (on_place_lem pages s.wmap m p v (exec pages k) s

@@ -24,7 +24,7 @@ use Rattle.code.specs.Codes.{rows, find_word}
 use Rattle.code.specs.Instructions.{memory_reference, shift_rotate, alter_skip, input_output, extended, reading}
 use Rattle.effects.specs.Group.{shift_rotated, alter_skips, alter_ended, alter_skipped, long_rotated}
 use Rattle.strings.specs.Strings.{touches, opens_all, present_all, moving}
-use Rattle.acts.specs.Acts.{Result, exec, answer, left}
+use Rattle.acts.specs.Acts.{Outcome, exec, answer, left}
 use Rattle.machine.specs.Step.{stepped}
 use Rattle.acts.specs.declared.record.Registers.{Registers}
 use Rattle.cases.specs.Table.{Case, Meets, holding, result, table, c5}
@@ -54,16 +54,16 @@ equal (x ∷ xs) [] t = absurd t
 equal (x ∷ xs) (y ∷ ys) t =
     λ i. eqb→eq x y (first_of (eqb x y) (same xs ys) t) i ∷ equal xs ys (second_of (eqb x y) (same xs ys) t) i
 
-abbrev same_reply : Case → Result → Bool
+abbrev same_reply : Case → Outcome → Bool
 same_reply c s = eqb (number (answer c.start s).reply) c.reply
 
-abbrev same_registers : Case → Result → Bool
+abbrev same_registers : Case → Outcome → Bool
 same_registers c s = same (words_of (answer c.start s).registers) (words_of c.registers)
 
-abbrev same_memory : Case → Result → Bool
+abbrev same_memory : Case → Outcome → Bool
 same_memory c s = same (left (holding c.words) s) (holding c.later)
 
-abbrev agrees : Case → Result → Bool
+abbrev agrees : Case → Outcome → Bool
 agrees c s = both (same_reply c s) (both (same_registers c s) (same_memory c s))
 
 abbrev pub passes : Case → Bool
@@ -78,7 +78,7 @@ equal_registers r s t =
     let e : words_of r ≡ words_of s = equal (words_of r) (words_of s) t in
     sym (at_words r) ∙ ap registers_at {x = words_of r} {y = words_of s} e ∙ at_words s
 
-agreeing : (c : Case) (s : Result) → T (agrees c s)
+agreeing : (c : Case) (s : Outcome) → T (agrees c s)
     → (number (answer c.start s).reply ≡ c.reply) × ((answer c.start s).registers ≡ c.registers)
     × (left (holding c.words) s ≡ holding c.later)
 agreeing c s t =

@@ -7,7 +7,7 @@
 use Rattle.std.specs.Prelude.{ℕ, ◌≡◌, Bool, true, false, List, [], ◌∷◌, set, replicate}
 use Rattle.acts.specs.Record.{with_a, with_b, with_p, with_e, with_o, fresh}
 use Rattle.acts.specs.Replies.{number}
-use Rattle.acts.specs.Acts.{Result, answer, left}
+use Rattle.acts.specs.Acts.{Outcome, answer, left}
 use Rattle.machine.specs.Step.{stepped}
 use Rattle.acts.specs.declared.record.Registers.{Registers}
 
@@ -31,7 +31,7 @@ abbrev pub holding : List Cell → List ℕ
 holding [] = replicate 1024 0
 holding (c ∷ cs) = set (holding cs) c.at c.word
 
-abbrev pub result : Case → Result
+abbrev pub result : Case → Outcome
 result c = stepped pages c.start (holding c.words)
 
 pub record Meets (c : Case) : Type 0 where

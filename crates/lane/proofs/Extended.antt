@@ -19,7 +19,6 @@ use Rattle.word.specs.Sums.{incremented, decremented, address}
 use Rattle.maps.specs.Access.{fetched}
 use Rattle.maps.specs.Chains.{chain}
 use Rattle.maps.specs.declared.pages.Map.{Map}
-use Rattle.maps.specs.declared.troubles.Got.{Got}
 use Rattle.code.specs.Codes.{find_word, first, rows}
 use Rattle.code.specs.Instructions.{memory_reference, shift_rotate, alter_skip, input_output, places, of_kind, extended, reading}
 use Rattle.code.proofs.Fields.{is_extended}
@@ -54,6 +53,8 @@ use Rattle.lane.specs.Lane.{Tried, Led}
 use Rattle.lane.specs.declared.went.Went.{Went}
 use Rattle.lane.specs.declared.went.Reach.{Reach}
 use Rattle.lane.proofs.Ways.{loaded, finished, tried}
+use Rattle.std.specs.Prelude.{Result, Ok}
+use Rattle.maps.specs.declared.troubles.Trouble.{Trouble}
 
 ---- The words
 
@@ -218,25 +219,25 @@ module _ (r : Registers) where
 ---- A code that has an address word
 
 module _ (pages m : List ℕ) (r : Registers) where
-  followed : (from : ℕ) {to : ℕ} (k : ℕ → Act) → chain pages m r.wmap from r.a r.b ≡ Got.Value to
+  followed : (from : ℕ) {to : ℕ} (k : ℕ → Act) → chain pages m r.wmap from r.a r.b ≡ Ok to
       → exec pages (follow from k) r m ≡ exec pages (k to) r m
   unfolding exec
   followed from k e = rw e
 
-  led : (from : ℕ) {to : ℕ} (g : Reach) → Led pages from r m g → g ≡ Reach.At to → chain pages m r.wmap from r.a r.b ≡ Got.Value to
+  led : (from : ℕ) {to : ℕ} (g : Reach) → Led pages from r m g → g ≡ Reach.At to → chain pages m r.wmap from r.a r.b ≡ Ok to
   led from g h e = rw e at h
 
-  pub arrived : (way : Way) (from : ℕ) {to : ℕ} {f : Got} (g : Reach) → f ≡ fetched pages m r.wmap Map.Execute (address r.p 1) r.a r.b
-      → f ≡ Got.Value from → Led pages from r m g → g ≡ Reach.At to → exec pages (act (Action.At way Operand.Next) r) r m ≡ exec pages (way_act way r to 2) r m
+  pub arrived : (way : Way) (from : ℕ) {to : ℕ} {f : Result ℕ Trouble} (g : Reach) → f ≡ fetched pages m r.wmap Map.Execute (address r.p 1) r.a r.b
+      → f ≡ Ok from → Led pages from r m g → g ≡ Reach.At to → exec pages (act (Action.At way Operand.Next) r) r m ≡ exec pages (way_act way r to 2) r m
   arrived way from g e w h k =
       loaded pages m r (address r.p 1) (λ v. follow v (λ at. way_act way r at 2)) e w ∙ followed from (λ at. way_act way r at 2) (led from g h k)
 
-  pub takes : (t : Taking) (at : ℕ) {v : ℕ} {f : Got} {s : Registers} → f ≡ fetched pages m r.wmap Map.Execute at r.a r.b
-      → f ≡ Got.Value v → s ≡ taken t v 2 r → exec pages (load Map.Execute at (λ w. fin (taken t w 2))) r m ≡ done s m
+  pub takes : (t : Taking) (at : ℕ) {v : ℕ} {f : Result ℕ Trouble} {s : Registers} → f ≡ fetched pages m r.wmap Map.Execute at r.a r.b
+      → f ≡ Ok v → s ≡ taken t v 2 r → exec pages (load Map.Execute at (λ w. fin (taken t w 2))) r m ≡ done s m
   takes t at {v} e g h = loaded pages m r at (λ w. fin (taken t w 2)) e g ∙ finished pages m r (taken t v 2) m h
 
-  pub takes_both : (at : ℕ) {v w : ℕ} {f g : Got} {s : Registers} → f ≡ fetched pages m r.wmap Map.Execute at r.a r.b
-      → f ≡ Got.Value v → g ≡ fetched pages m r.wmap Map.Execute (address at 1) r.a r.b → g ≡ Got.Value w
+  pub takes_both : (at : ℕ) {v w : ℕ} {f g : Result ℕ Trouble} {s : Registers} → f ≡ fetched pages m r.wmap Map.Execute at r.a r.b
+      → f ≡ Ok v → g ≡ fetched pages m r.wmap Map.Execute (address at 1) r.a r.b → g ≡ Ok w
       → s ≡ ahead 2 (with_b (with_a r v) w) → exec pages (way_act LoadDouble r at 2) r m ≡ done s m
   takes_both at {v} {w} e g a b h =
       loaded pages m r at (λ v. load Map.Execute (address at 1) (λ w. fin (λ s. ahead 2 (with_b (with_a s v) w)))) e g

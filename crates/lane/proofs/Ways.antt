@@ -25,7 +25,6 @@ use Rattle.maps.proofs.Laws.{chain_direct, chain_once}
 use Rattle.maps.specs.declared.pages.Map.{Map}
 use Rattle.maps.specs.declared.pages.Purpose.{Purpose}
 use Rattle.maps.specs.declared.pages.Place.{Place}
-use Rattle.maps.specs.declared.troubles.Got.{Got}
 use Rattle.code.proofs.Digits.{last_arm}
 use Rattle.code.specs.Instructions.{operation_at, memory_reference, reading}
 use Rattle.acts.specs.Record.{with_p}
@@ -39,16 +38,18 @@ use Rattle.lane.specs.Lane.{Tried, Led, put_at, carried}
 use Rattle.lane.specs.Asking.{Finishes}
 use Rattle.lane.specs.declared.went.Went.{Went}
 use Rattle.lane.specs.declared.went.Reach.{Reach}
+use Rattle.std.specs.Prelude.{Result, Ok}
+use Rattle.maps.specs.declared.troubles.Trouble.{Trouble}
 
 module _ (pages m : List ℕ) (r : Registers) where
   ---- One access
 
-  pub loaded : (at : ℕ) {v : ℕ} {f : Got} (k : ℕ → Act) → f ≡ fetched pages m r.wmap Map.Execute at r.a r.b → f ≡ Got.Value v
+  pub loaded : (at : ℕ) {v : ℕ} {f : Result ℕ Trouble} (k : ℕ → Act) → f ≡ fetched pages m r.wmap Map.Execute at r.a r.b → f ≡ Ok v
       → exec pages (load Map.Execute at k) r m ≡ exec pages (k v) r m
   unfolding exec
   loaded at k e g = rw (← e, g)
 
-  pub placed : (at v : ℕ) {i : ℕ} {p : Place} (k : Act) → p ≡ place pages r.wmap Map.Execute Purpose.Store at (length m) → p ≡ Place.Memory i
+  pub placed : (at v : ℕ) {i : ℕ} {p : Result Place Trouble} (k : Act) → p ≡ place pages r.wmap Map.Execute Purpose.Store at (length m) → p ≡ Ok (Place.Memory i)
       → exec pages (save Map.Execute at v k) r m ≡ exec pages k r (set m i v)
   unfolding exec
   placed at v k e g = rw (← e, g)
@@ -59,16 +60,16 @@ module _ (pages m : List ℕ) (r : Registers) where
 
   ---- A way that completes
 
-  pub taking : (t : Taking) (at : ℕ) {v : ℕ} {f : Got} {s : Registers} → f ≡ fetched pages m r.wmap Map.Execute at r.a r.b
-      → f ≡ Got.Value v → s ≡ taken t v 1 r → exec pages (load Map.Execute at (λ w. fin (taken t w 1))) r m ≡ done s m
+  pub taking : (t : Taking) (at : ℕ) {v : ℕ} {f : Result ℕ Trouble} {s : Registers} → f ≡ fetched pages m r.wmap Map.Execute at r.a r.b
+      → f ≡ Ok v → s ≡ taken t v 1 r → exec pages (load Map.Execute at (λ w. fin (taken t w 1))) r m ≡ done s m
   taking t at {v} e g h = loaded at (λ w. fin (taken t w 1)) e g ∙ finished (taken t v 1) m h
 
-  pub putting : (at v q : ℕ) {i : ℕ} {p : Place} {s : Registers} → p ≡ place pages r.wmap Map.Execute Purpose.Store at (length m)
-      → p ≡ Place.Memory i → s ≡ with_p r q → exec pages (save Map.Execute at v (go_on q)) r m ≡ done s (set m i v)
+  pub putting : (at v q : ℕ) {i : ℕ} {p : Result Place Trouble} {s : Registers} → p ≡ place pages r.wmap Map.Execute Purpose.Store at (length m)
+      → p ≡ Ok (Place.Memory i) → s ≡ with_p r q → exec pages (save Map.Execute at v (go_on q)) r m ≡ done s (set m i v)
   putting at v q {i} e g h = placed at v (go_on q) e g ∙ finished (λ s. with_p s q) (set m i v) h
 
-  pub stepping : (at : ℕ) {v i q : ℕ} {f : Got} {p : Place} {s : Registers} → f ≡ fetched pages m r.wmap Map.Execute at r.a r.b
-      → f ≡ Got.Value v → p ≡ place pages r.wmap Map.Execute Purpose.Store at (length m) → p ≡ Place.Memory i
+  pub stepping : (at : ℕ) {v i q : ℕ} {f : Result ℕ Trouble} {p : Result Place Trouble} {s : Registers} → f ≡ fetched pages m r.wmap Map.Execute at r.a r.b
+      → f ≡ Ok v → p ≡ place pages r.wmap Map.Execute Purpose.Store at (length m) → p ≡ Ok (Place.Memory i)
       → 1 + weight (eqb (incremented v).word 0) ≡ q → s ≡ with_p r (address r.p q)
       → exec pages (way_act StepAndSkip r at 1) r m ≡ done s (set m i (incremented v).word)
   stepping at {v} e g a b z h =
@@ -78,7 +79,7 @@ module _ (pages m : List ℕ) (r : Registers) where
 
   ---- A step
 
-  pub step_at : {w : ℕ} {f : Got} → r.trap ≡ 0 → f ≡ fetched pages m r.wmap Map.Execute r.p r.a r.b → f ≡ Got.Value w
+  pub step_at : {w : ℕ} {f : Result ℕ Trouble} → r.trap ≡ 0 → f ≡ fetched pages m r.wmap Map.Execute r.p r.a r.b → f ≡ Ok w
       → exec pages (step_act r) r m ≡ exec pages (rule (reading w) r) r m
   step_at t e g = rw (eq-eqb _ _ t) (loaded r.p (λ w. rule (reading w) r) e g)
 
@@ -100,17 +101,17 @@ near true offset p = omega arith
 near false offset p = omega arith
 
 module _ (pages m : List ℕ) (r : Registers) where
-  pub direct : (word : ℕ) → word < 0o100000 → chain pages m r.wmap word r.a r.b ≡ Got.Value word
-  direct word l = chain_direct pages r.wmap m word r.a r.b (clear word l) ∙ ap Got.Value (mod-eq_of_lt l)
+  pub direct : (word : ℕ) → word < 0o100000 → chain pages m r.wmap word r.a r.b ≡ Ok word
+  direct word l = chain_direct pages r.wmap m word r.a r.b (clear word l) ∙ ap Ok (mod-eq_of_lt l)
 
-  pub once : (word : ℕ) {next : ℕ} {f : Got} → 0o100000 ≤ word → word < 0o200000
-      → f ≡ fetched pages m r.wmap Map.Execute word r.a r.b → f ≡ Got.Value next → next < 0o100000
-      → chain pages m r.wmap word r.a r.b ≡ Got.Value next
+  pub once : (word : ℕ) {next : ℕ} {f : Result ℕ Trouble} → 0o100000 ≤ word → word < 0o200000
+      → f ≡ fetched pages m r.wmap Map.Execute word r.a r.b → f ≡ Ok next → next < 0o100000
+      → chain pages m r.wmap word r.a r.b ≡ Ok next
   once word {next} l b e g h =
-      chain_once pages r.wmap m word next r.a r.b (asking word l b) (sym e ∙ g) (clear next h) ∙ ap Got.Value (mod-eq_of_lt h)
+      chain_once pages r.wmap m word next r.a r.b (asking word l b) (sym e ∙ g) (clear next h) ∙ ap Ok (mod-eq_of_lt h)
 
   -- a memory reference, or a word of shift/rotate or alter/skip
-  pub carrying : {w at : ℕ} {f : Got} → r.trap ≡ 0 → f ≡ fetched pages m r.wmap Map.Execute r.p r.a r.b → f ≡ Got.Value w
+  pub carrying : {w at : ℕ} {f : Result ℕ Trouble} → r.trap ≡ 0 → f ≡ fetched pages m r.wmap Map.Execute r.p r.a r.b → f ≡ Ok w
       → (w / 0o4000 % 16 < 2 → w < 0o100000) → Led pages (memory_word (bit 15 w) (bit 10 w) (w % 0o2000) r.p) r m (Reach.At at)
       → exec pages (step_act r) r m ≡ exec pages (carried w at r) r m
   unfolding exec carried reading memory_reference
@@ -152,8 +153,8 @@ module _ (n at : ℕ) (r : Registers) where
       three false q = five (eqb n 5) refl (eqb-false n 3 q)
 
 -- a word that was read, and what the codes of one address word make of it
-pub finished_by : (pages m : List ℕ) (r : Registers) (t : Taking) (at : ℕ) {v : ℕ} {f : Got} (w : Went)
-    → f ≡ fetched pages m r.wmap Map.Execute at r.a r.b → f ≡ Got.Value v → Finishes t v r w
+pub finished_by : (pages m : List ℕ) (r : Registers) (t : Taking) (at : ℕ) {v : ℕ} {f : Result ℕ Trouble} (w : Went)
+    → f ≡ fetched pages m r.wmap Map.Execute at r.a r.b → f ≡ Ok v → Finishes t v r w
     → Tried pages (load Map.Execute at (λ x. fin (taken t x 2))) r m w m
 finished_by pages m r t at {v} (Went.Done s) e g h = loaded pages m r at (λ x. fin (taken t x 2)) e g ∙ finished pages m r (taken t v 2) m h
 finished_by pages m r t at Went.Not e g h = refl

@@ -8,7 +8,6 @@ use Rattle.std.specs.Prelude.{ℕ, suc, ◌/◌, ◌%◌, ◌≡◌, cond, List,
 use Rattle.word.specs.Words.{bit}
 use Rattle.maps.specs.Chains.{chain}
 use Rattle.maps.specs.declared.pages.Map.TheVariants.{Execute}
-use Rattle.maps.specs.declared.troubles.Got.{Got}
 use Rattle.code.specs.Instructions.{operation_at, shift_rotate, alter_skip}
 use Rattle.code.specs.declared.codes.Register.TheVariants.{A, B}
 use Rattle.acts.specs.Acts.{Act, done, exec}
@@ -23,13 +22,14 @@ use Rattle.effects.specs.declared.ways.Way.TheVariants.{Put, StepAndSkip, Jump, 
 use Rattle.rules.specs.Rules.{memory_way, rule, step_act}
 use Rattle.lane.specs.declared.went.Went.{Went}
 use Rattle.lane.specs.declared.went.Reach.{Reach}
+use Rattle.std.specs.Prelude.{Ok}
 
 abbrev pub Tried : List ℕ → Act → Registers → List ℕ → Went → List ℕ → Type 0
 Tried pages act r m Went.Not n = n ≡ m
 Tried pages act r m (Went.Done s) n = exec pages act r m ≡ done s n
 
 abbrev pub Led : List ℕ → ℕ → Registers → List ℕ → Reach → Type 0
-Led pages word r m (Reach.At to) = chain pages m r.wmap word r.a r.b ≡ Got.Value to
+Led pages word r m (Reach.At to) = chain pages m r.wmap word r.a r.b ≡ Ok to
 Led pages word r m Reach.Not = Unit
 
 -- the memory references that read a word, by bits 14 to 11

@@ -9,7 +9,7 @@ use Rattle.std.specs.Prelude.{ℕ, zero, suc, ◌+◌, ◌%◌, ◌≡◌, Bool,
 use Rattle.word.specs.Words.{weight}
 use Rattle.acts.specs.Replies.{number}
 use Rattle.acts.specs.Record.{valid}
-use Rattle.acts.specs.Acts.{Result, bad_call, exec, answer, left}
+use Rattle.acts.specs.Acts.{Outcome, bad_call, exec, answer, left}
 use Rattle.rules.specs.Rules.{step_act}
 use Rattle.acts.specs.declared.record.Registers.{Registers}
 use Rattle.acts.specs.declared.replies.Reply.{Reply}
@@ -25,7 +25,7 @@ whole_pages n = eqb (n % 1024) 0 && leb 1024 n && leb n 16777216
 abbrev pub good_call : ℕ → ℕ → Registers → Bool
 good_call registers words r = eqb registers 1024 && whole_pages words && valid r
 
-unfoldable pub stepped : List ℕ → Registers → List ℕ → Result
+unfoldable pub stepped : List ℕ → Registers → List ℕ → Outcome
 stepped pages r m = cond (good_call (length pages) (length m) r) (exec pages (step_act r) r m) bad_call
 
 pub record Steps (pages : List ℕ) (r : Registers) (m : List ℕ) (s : Stepped) (later n : List ℕ) : Type 0 where

@@ -20,8 +20,7 @@ use Rattle.maps.specs.declared.pages.Map.{Map}
 use Rattle.maps.specs.declared.pages.Purpose.{Purpose}
 use Rattle.maps.specs.declared.pages.Place.{Place}
 use Rattle.maps.specs.declared.troubles.Trouble.{Trouble}
-use Rattle.maps.specs.declared.troubles.Tested.{Tested}
-use Rattle.maps.specs.declared.troubles.Got.{Got}
+use Rattle.std.specs.Prelude.{Result, Ok, Err}
 
 -- Execute 1, DATA1 2, DATA2 3
 pub fields : (map_number Map.Execute 0o6101 ≡ 1) × (map_number Map.Data1 0o6101 ≡ 2) × (map_number Map.Data2 0o6101 ≡ 3)
@@ -50,33 +49,33 @@ unfolding is_open
 opens = (refl, refl, refl, refl, refl, refl, refl, refl, refl)
 
 -- the last word of memory; an absent page by its 14 bits; a page register that is not lent names page 0; A of no memory
-pub presences : (presence board on Map.Execute 0o3777 2048 ≡ Tested.Sound)
-    × (presence board on Map.Execute 0o4000 2048 ≡ Tested.Ends (Trouble.Absent 5))
-    × (presence board on Map.Execute 0o10000 2048 ≡ Tested.Sound)
-    × (presence board on Map.Execute 0 0 ≡ Tested.Sound) × (presence board on Map.Data1 0 0 ≡ Tested.Ends (Trouble.Absent 1))
+pub presences : (presence board on Map.Execute 0o3777 2048 ≡ Ok tt)
+    × (presence board on Map.Execute 0o4000 2048 ≡ Err (Trouble.Absent 5))
+    × (presence board on Map.Execute 0o10000 2048 ≡ Ok tt)
+    × (presence board on Map.Execute 0 0 ≡ Ok tt) × (presence board on Map.Data1 0 0 ≡ Err (Trouble.Absent 1))
 unfolding presence
 presences = (refl, refl, refl, refl, refl)
 
 -- closed and absent is closed; with protection off absent; word 1 is B in Execute, memory in DATA1; bit 15 counts nowhere
-pub places : (place board on Map.Execute Purpose.Read 0o4000 2048 ≡ Place.Ends Trouble.Closed)
-    × (place board 0 Map.Execute Purpose.Read 0o4000 2048 ≡ Place.Ends (Trouble.Absent 5))
-    × (place board on Map.Execute Purpose.Store 0 2048 ≡ Place.A) × (place board on Map.Execute Purpose.Store 1 2048 ≡ Place.B)
-    × (place board on Map.Data1 Purpose.Store 1 2048 ≡ Place.Memory 1025)
-    × (place board on Map.Execute Purpose.Read 0o102005 2048 ≡ Place.Memory 1029)
+pub places : (place board on Map.Execute Purpose.Read 0o4000 2048 ≡ Err Trouble.Closed)
+    × (place board 0 Map.Execute Purpose.Read 0o4000 2048 ≡ Err (Trouble.Absent 5))
+    × (place board on Map.Execute Purpose.Store 0 2048 ≡ Ok Place.A) × (place board on Map.Execute Purpose.Store 1 2048 ≡ Ok Place.B)
+    × (place board on Map.Data1 Purpose.Store 1 2048 ≡ Ok (Place.Memory 1025))
+    × (place board on Map.Execute Purpose.Read 0o102005 2048 ≡ Ok (Place.Memory 1029))
 unfolding place is_open presence spot
 places = (refl, refl, refl, refl, refl, refl)
 
-pub reads_of : (fetched board (set (replicate 2048 0) 1029 7) on Map.Execute 0o2005 11 12 ≡ Got.Value 7)
-    × (fetched board (replicate 2048 0) on Map.Execute 0 11 12 ≡ Got.Value 11)
-    × (fetched board (replicate 2048 0) on Map.Execute 1 11 12 ≡ Got.Value 12)
-    × (fetched board (replicate 2048 0) on Map.Data1 1 11 12 ≡ Got.Ends Trouble.Closed)
-    × (fetched board (replicate 2048 0) 0 Map.Data1 1 11 12 ≡ Got.Value 0)
-    × (fetched board (replicate 2048 0) on Map.Data1 0o6000 11 12 ≡ Got.Ends (Trouble.Absent 5))
+pub reads_of : (fetched board (set (replicate 2048 0) 1029 7) on Map.Execute 0o2005 11 12 ≡ Ok 7)
+    × (fetched board (replicate 2048 0) on Map.Execute 0 11 12 ≡ Ok 11)
+    × (fetched board (replicate 2048 0) on Map.Execute 1 11 12 ≡ Ok 12)
+    × (fetched board (replicate 2048 0) on Map.Data1 1 11 12 ≡ Err Trouble.Closed)
+    × (fetched board (replicate 2048 0) 0 Map.Data1 1 11 12 ≡ Ok 0)
+    × (fetched board (replicate 2048 0) on Map.Data1 0o6000 11 12 ≡ Err (Trouble.Absent 5))
 unfolding fetched place is_open presence spot
 reads_of = (refl, refl, refl, refl, refl, refl)
 
-pub stores : (put (Place.Memory 1) (1 ∷ 2 ∷ 3 ∷ []) 9 ≡ 1 ∷ 9 ∷ 3 ∷ []) × (put Place.A (1 ∷ 2 ∷ []) 9 ≡ 1 ∷ 2 ∷ [])
-    × (put (Place.Ends Trouble.Closed) (1 ∷ 2 ∷ []) 9 ≡ 1 ∷ 2 ∷ [])
+pub stores : (put (Ok (Place.Memory 1)) (1 ∷ 2 ∷ 3 ∷ []) 9 ≡ 1 ∷ 9 ∷ 3 ∷ []) × (put (Ok Place.A) (1 ∷ 2 ∷ []) 9 ≡ 1 ∷ 2 ∷ [])
+    × (put (Err Trouble.Closed) (1 ∷ 2 ∷ []) 9 ≡ 1 ∷ 2 ∷ [])
 stores = (refl, refl, refl)
 
 -- 01: "C13 SBT, B 000041, A 000001, word 20 holding 123456: word 20 is 123401"
@@ -87,21 +86,21 @@ pub byte_ends : (byte_word 0o177777 ≡ 0o77777) × (is_low_byte 0o177777 ≡ tr
 byte_ends = (refl, refl, refl, refl)
 
 -- 01: "C14 160100 with word 100 holding 100100: reply 3."
-pub itself : chain (replicate 1024 0) (set (replicate 1024 0) 0o100 0o100100) 0 0o100100 0 0 ≡ Got.Ends Trouble.Endless
+pub itself : chain (replicate 1024 0) (set (replicate 1024 0) 0o100 0o100100) 0 0o100100 0 0 ≡ Err Trouble.Endless
 unfolding chain chased fetched place is_open presence spot
 itself = refl
 
 -- bit 15 clear; A as the next word; A that names itself; a closed word met first, and with protection off an absent one
-pub links : (chain board (replicate 2048 0) on 0o4000 0 0 ≡ Got.Value 0o4000)
-    × (chain board (replicate 2048 0) on 0o100000 0o77 0 ≡ Got.Value 0o77)
-    × (chain board (replicate 2048 0) on 0o100000 0o100000 0 ≡ Got.Ends Trouble.Endless)
-    × (chain board (replicate 2048 0) on 0o104000 0 0 ≡ Got.Ends Trouble.Closed)
-    × (chain board (replicate 2048 0) 0 0o104000 0 0 ≡ Got.Ends (Trouble.Absent 5))
+pub links : (chain board (replicate 2048 0) on 0o4000 0 0 ≡ Ok 0o4000)
+    × (chain board (replicate 2048 0) on 0o100000 0o77 0 ≡ Ok 0o77)
+    × (chain board (replicate 2048 0) on 0o100000 0o100000 0 ≡ Err Trouble.Endless)
+    × (chain board (replicate 2048 0) on 0o104000 0 0 ≡ Err Trouble.Closed)
+    × (chain board (replicate 2048 0) 0 0o104000 0 0 ≡ Err (Trouble.Absent 5))
 unfolding chain chased fetched place is_open presence spot
 links = (refl, refl, refl, refl, refl)
 
 -- each word asks for the word below it, down to A, which asks for nothing
-descending : chased (λ address. Got.Value (0o77777 + address % 0o100000)) 32768 0o177777 ≡ Got.Value 0o77777
+descending : chased (λ address. Ok (0o77777 + address % 0o100000)) 32768 0o177777 ≡ Ok 0o77777
 unfolding chased
 descending = refl
 
@@ -122,7 +121,7 @@ length_rising (suc count) first = ap suc (length_rising count (suc first))
 
 -- page registers that name page n for page n, and 32 pages of memory whose word n holds 077777 + n
 placed : (address : ℕ) → 2 ≤ address % 0o100000
-    → place (rising 32 0) 0 Map.Execute Purpose.Read address 32768 ≡ Place.Memory (address % 0o100000)
+    → place (rising 32 0) 0 Map.Execute Purpose.Read address 32768 ≡ Ok (Place.Memory (address % 0o100000))
 unfolding place is_open presence spot
 placed address l =
     let r : get_or (rising 32 0) (0 + address / 1024 % 32) 0 ≡ address / 1024 % 32 =
@@ -131,22 +130,22 @@ placed address l =
     rw (le-ltb (address % 0o100000) 2 l, r, i, lt-ltb (address % 0o100000) 32768 (omega arith))
 
 reads : (address : ℕ)
-    → execute_word (rising 32 0) (rising 32768 0o77777) 0 0o77777 0o100000 address ≡ Got.Value (0o77777 + address % 0o100000)
+    → execute_word (rising 32 0) (rising 32768 0o77777) 0 0o77777 0o100000 address ≡ Ok (0o77777 + address % 0o100000)
 unfolding fetched
 reads address = rw length_rising (go (address % 0o100000) refl)
   where
     go : (x : ℕ) → address % 0o100000 ≡ x
         → held (place (rising 32 0) 0 Map.Execute Purpose.Read address 32768) (rising 32768 0o77777) 0o77777 0o100000
-        ≡ Got.Value (0o77777 + address % 0o100000)
+        ≡ Ok (0o77777 + address % 0o100000)
     go zero e = rw (place_a (rising 32 0) 0 Purpose.Read address 32768 e, e)
     go (suc zero) e = rw (place_b (rising 32 0) 0 Purpose.Read address 32768 e, e)
     go (suc (suc x)) e =
-        rw (placed address (omega arith)) (ap Got.Value (get_d_rising 32768 0o77777 (address % 0o100000) (omega arith)))
+        rw (placed address (omega arith)) (ap Ok (get_d_rising 32768 0o77777 (address % 0o100000) (omega arith)))
 
-pub longest : chain (rising 32 0) (rising 32768 0o77777) 0 0o177777 0o77777 0o100000 ≡ Got.Value 0o77777
+pub longest : chain (rising 32 0) (rising 32768 0o77777) 0 0o177777 0o77777 0o100000 ≡ Ok 0o77777
 unfolding chain
-longest = ap (λ (read : ℕ → Got). chased read 32768 0o177777) (fun_ext reads) ∙ descending
+longest = ap (λ (read : ℕ → Result ℕ Trouble). chased read 32768 0o177777) (fun_ext reads) ∙ descending
 
-pub too_long : chased (λ address. Got.Value (0o100000 + (0o77777 + address) % 0o100000)) 32768 0o177777 ≡ Got.Ends Trouble.Endless
+pub too_long : chased (λ address. Ok (0o100000 + (0o77777 + address) % 0o100000)) 32768 0o177777 ≡ Err Trouble.Endless
 unfolding chased
 too_long = refl

@@ -31,8 +31,7 @@ use Rattle.maps.specs.declared.pages.Map.{Map}
 use Rattle.maps.specs.declared.pages.Purpose.{Purpose}
 use Rattle.maps.specs.declared.pages.Place.{Place}
 use Rattle.maps.specs.declared.troubles.Trouble.{Trouble}
-use Rattle.maps.specs.declared.troubles.Tested.{Tested}
-use Rattle.maps.specs.declared.troubles.Got.{Got}
+use Rattle.std.specs.Prelude.{Result, Ok, Err}
 
 ---- The paper's numbers: each tells the case, and the case holds what else the answer says
 
@@ -48,19 +47,19 @@ trouble_told (Trouble.Absent page) = ((λ e. absurd (omega arith)), (λ e. absur
 trouble_told Trouble.InRegisters = ((λ e. absurd (omega arith)), (λ e. absurd (omega arith)), (λ e. absurd (omega arith)), (λ e. absurd (omega arith)), (λ e. refl))
 
 -- 0 tells that nothing stands in the way, any other number which trouble does
-pub place_told : (p : Place) → (number_place p ≡ 0 → Reached p) × ((t : Trouble) → p ≡ Place.Ends t → number_place p ≡ number_trouble t)
-place_told Place.A = ((λ e. Reached.at_a), (λ t e. ap number_place e))
-place_told Place.B = ((λ e. Reached.at_b), (λ t e. ap number_place e))
-place_told (Place.Memory index) = ((λ e. Reached.at_word), (λ t e. ap number_place e))
-place_told (Place.Ends trouble) = ((λ e. absurd ((trouble_told trouble).0 e)), (λ t e. ap number_place e))
+pub place_told : (p : Result Place Trouble) → (number_place p ≡ 0 → Reached p) × ((t : Trouble) → p ≡ Err t → number_place p ≡ number_trouble t)
+place_told (Ok Place.A) = ((λ e. Reached.at_a), (λ t e. ap number_place e))
+place_told (Ok Place.B) = ((λ e. Reached.at_b), (λ t e. ap number_place e))
+place_told (Ok (Place.Memory index)) = ((λ e. Reached.at_word), (λ t e. ap number_place e))
+place_told (Err trouble) = ((λ e. absurd ((trouble_told trouble).0 e)), (λ t e. ap number_place e))
 
-pub got_told : (g : Got) → number_got g ≡ 0 → (value : ℕ) × (g ≡ Got.Value value)
-got_told (Got.Value value) e = (value, refl)
-got_told (Got.Ends trouble) e = absurd ((trouble_told trouble).0 e)
+pub got_told : (g : Result ℕ Trouble) → number_got g ≡ 0 → (value : ℕ) × (g ≡ Ok value)
+got_told (Ok value) e = (value, refl)
+got_told (Err trouble) e = absurd ((trouble_told trouble).0 e)
 
-pub tested_told : (t : Tested) → number_tested t ≡ 0 → t ≡ Tested.Sound
-tested_told Tested.Sound e = refl
-tested_told (Tested.Ends trouble) e = absurd ((trouble_told trouble).0 e)
+pub tested_told : (t : Result Unit Trouble) → number_tested t ≡ 0 → t ≡ Ok tt
+tested_told (Ok tt) e = refl
+tested_told (Err trouble) e = absurd ((trouble_told trouble).0 e)
 
 ---- WMAP
 
@@ -70,42 +69,42 @@ switched_off wmap = ne_eqb (switched wmap / 0o100000 % 2) 1 (λ e. omega arith)
 
 ---- What a store leaves, at any place
 
-pub put_length : (p : Place) (memory : List ℕ) (value : ℕ) → length (put p memory value) ≡ length memory
-put_length Place.A memory value = refl
-put_length Place.B memory value = refl
-put_length (Place.Memory index) memory value = simp length-set
-put_length (Place.Ends trouble) memory value = refl
+pub put_length : (p : Result Place Trouble) (memory : List ℕ) (value : ℕ) → length (put p memory value) ≡ length memory
+put_length (Ok Place.A) memory value = refl
+put_length (Ok Place.B) memory value = refl
+put_length (Ok (Place.Memory index)) memory value = simp length-set
+put_length (Err trouble) memory value = refl
 
 -- a word after a store is the word before it, or the value, at the place alone
-pub put_cases : (p : Place) (memory : List ℕ) (value index : ℕ)
+pub put_cases : (p : Result Place Trouble) (memory : List ℕ) (value index : ℕ)
     → (get_or (put p memory value) index 0 ≡ get_or memory index 0)
-    ⊎ ((p ≡ Place.Memory index) × (get_or (put p memory value) index 0 ≡ value))
-put_cases Place.A memory value index = inl refl
-put_cases Place.B memory value index = inl refl
-put_cases (Place.Memory i) memory value index = ⊎_elim inl (λ w. inr (ap Place.Memory w.0, w.1)) (set_cases memory i value index)
-put_cases (Place.Ends trouble) memory value index = inl refl
+    ⊎ ((p ≡ Ok (Place.Memory index)) × (get_or (put p memory value) index 0 ≡ value))
+put_cases (Ok Place.A) memory value index = inl refl
+put_cases (Ok Place.B) memory value index = inl refl
+put_cases (Ok (Place.Memory i)) memory value index = ⊎_elim inl (λ w. inr (ap (λ (i : ℕ). Ok (Place.Memory i)) w.0, w.1)) (set_cases memory i value index)
+put_cases (Err trouble) memory value index = inl refl
 
-pub put_here : (memory : List ℕ) (value index : ℕ) → index < length memory → get_or (put (Place.Memory index) memory value) index 0 ≡ value
+pub put_here : (memory : List ℕ) (value index : ℕ) → index < length memory → get_or (put (Ok (Place.Memory index)) memory value) index 0 ≡ value
 put_here memory value index l = get_or-set_same memory index value 0 l
 
-pub put_elsewhere : (p : Place) (memory : List ℕ) (value index : ℕ) → (p ≡ Place.Memory index → ⊥)
+pub put_elsewhere : (p : Result Place Trouble) (memory : List ℕ) (value index : ℕ) → (p ≡ Ok (Place.Memory index) → ⊥)
     → get_or (put p memory value) index 0 ≡ get_or memory index 0
 put_elsewhere p memory value index h = ⊎_elim (λ e. e) (λ w. absurd (h w.0)) (put_cases p memory value index)
 
 -- one value stored at one place of two memories leaves a word unchanged in both, or the same in both
-pub put_either : (p : Place) (m n : List ℕ) (value index : ℕ) → length m ≡ length n
+pub put_either : (p : Result Place Trouble) (m n : List ℕ) (value index : ℕ) → length m ≡ length n
     → ((get_or (put p m value) index 0 ≡ get_or m index 0) × (get_or (put p n value) index 0 ≡ get_or n index 0))
     ⊎ (get_or (put p m value) index 0 ≡ get_or (put p n value) index 0)
-put_either Place.A m n value index e = inl (refl, refl)
-put_either Place.B m n value index e = inl (refl, refl)
-put_either (Place.Memory i) m n value index e = set_either m n i value index e
-put_either (Place.Ends trouble) m n value index e = inl (refl, refl)
+put_either (Ok Place.A) m n value index e = inl (refl, refl)
+put_either (Ok Place.B) m n value index e = inl (refl, refl)
+put_either (Ok (Place.Memory i)) m n value index e = set_either m n i value index e
+put_either (Err trouble) m n value index e = inl (refl, refl)
 
 -- memory as lent holds 16-bit words, and does after a store
 abbrev pub Words : List ℕ → Type 0
 Words memory = (index : ℕ) → get_or memory index 0 < 65536
 
-pub put_words : (p : Place) (memory : List ℕ) (value : ℕ) → Words memory → value < 65536 → Words (put p memory value)
+pub put_words : (p : Result Place Trouble) (memory : List ℕ) (value : ℕ) → Words memory → value < 65536 → Words (put p memory value)
 put_words p memory value h l index =
     ⊎_elim (λ e. omega (arith, h index)) (λ w. omega (arith, w.1)) (put_cases p memory value index)
 
@@ -114,37 +113,37 @@ module _ (pages : List ℕ) (wmap : ℕ) where
 
   pub place_by_tests : (map : Map) (purpose : Purpose) (address size : ℕ)
       → place pages wmap map purpose address size
-      ≡ cond (is_open pages wmap map purpose address) (if_present (presence pages wmap map address size) (spot pages wmap map address)) (Place.Ends Trouble.Closed)
+      ≡ cond (is_open pages wmap map purpose address) (if_present (presence pages wmap map address size) (spot pages wmap map address)) (Err Trouble.Closed)
   unfolding place
   place_by_tests map purpose address size = refl
 
   pub place_closed : (map : Map) (purpose : Purpose) (address size : ℕ)
       → is_open pages wmap map purpose address ≡ false
-      → place pages wmap map purpose address size ≡ Place.Ends Trouble.Closed
+      → place pages wmap map purpose address size ≡ Err Trouble.Closed
   unfolding place
   place_closed map purpose address size e = rw e
 
   pub place_absent : (map : Map) (purpose : Purpose) (address size page : ℕ)
       → is_open pages wmap map purpose address ≡ true
-      → presence pages wmap map address size ≡ Tested.Ends (Trouble.Absent page)
-      → place pages wmap map purpose address size ≡ Place.Ends (Trouble.Absent page)
+      → presence pages wmap map address size ≡ Err (Trouble.Absent page)
+      → place pages wmap map purpose address size ≡ Err (Trouble.Absent page)
   unfolding place
   place_absent map purpose address size page e f = rw (e, f)
 
   -- after the tests of an access succeed, the access succeeds
   pub place_reached : (map : Map) (purpose : Purpose) (address size : ℕ)
       → is_open pages wmap map purpose address ≡ true
-      → presence pages wmap map address size ≡ Tested.Sound
-      → place pages wmap map purpose address size ≡ spot pages wmap map address
+      → presence pages wmap map address size ≡ Ok tt
+      → place pages wmap map purpose address size ≡ Ok (spot pages wmap map address)
   unfolding place
   place_reached map purpose address size e f = rw (e, f)
 
   -- A, B or a word of memory
-  pub spot_reached : (map : Map) (address : ℕ) → Reached (spot pages wmap map address)
+  pub spot_reached : (map : Map) (address : ℕ) → Reached (Ok (spot pages wmap map address))
   unfolding spot
   spot_reached map address = go (is_register map address) (eqb (address % 0o100000) 0)
     where
-      go : (register first : Bool) → Reached (cond register (cond first Place.A Place.B) (Place.Memory (index_in (register_of pages wmap map address) address)))
+      go : (register first : Bool) → Reached (Ok (cond register (cond first Place.A Place.B) (Place.Memory (index_in (register_of pages wmap map address) address))))
       go true true = Reached.at_a
       go true false = Reached.at_b
       go false first = Reached.at_word
@@ -155,7 +154,7 @@ module _ (pages : List ℕ) (wmap : ℕ) where
   spot_memory map address e = (index_in (register_of pages wmap map address) address, rw e)
 
   pub place_below : (map : Map) (purpose : Purpose) (address size index : ℕ)
-      → place pages wmap map purpose address size ≡ Place.Memory index → index < size
+      → place pages wmap map purpose address size ≡ Ok (Place.Memory index) → index < size
   place_below map purpose address size index e = (in_memory pages wmap map purpose address size index e).below
 
   -- the paper's number goes by the two tests, protection first
@@ -164,27 +163,27 @@ module _ (pages : List ℕ) (wmap : ℕ) where
       ≡ cond (is_open pages wmap map purpose address) (number_tested (presence pages wmap map address size)) 1
   unfolding place
   place_number map purpose address size =
-      number_of (is_open pages wmap map purpose address) (presence pages wmap map address size) (spot pages wmap map address) (spot_reached map address)
+      number_of (is_open pages wmap map purpose address) (presence pages wmap map address size) (spot pages wmap map address)
 
   pub closed_place : (map : Map) (purpose : Purpose) (address size : ℕ)
-      → place pages wmap map purpose address size ≡ Place.Ends Trouble.Closed
+      → place pages wmap map purpose address size ≡ Err Trouble.Closed
       → is_open pages wmap map purpose address ≡ false
   unfolding place presence
   closed_place map purpose address size e =
       let register = register_of pages wmap map address in
       closed_by (is_open pages wmap map purpose address) (is_register map address || ltb (index_in register address) size) (physical_page register)
-      (spot pages wmap map address) (spot_reached map address) e
+      (spot pages wmap map address) e
 
   pub absent_place : (map : Map) (purpose : Purpose) (address size page : ℕ)
-      → place pages wmap map purpose address size ≡ Place.Ends (Trouble.Absent page)
-      → presence pages wmap map address size ≡ Tested.Ends (Trouble.Absent page)
+      → place pages wmap map purpose address size ≡ Err (Trouble.Absent page)
+      → presence pages wmap map address size ≡ Err (Trouble.Absent page)
   unfolding place
   absent_place map purpose address size page e =
-      absent_by (is_open pages wmap map purpose address) (presence pages wmap map address size) (spot pages wmap map address) page (spot_reached map address) e
+      absent_by (is_open pages wmap map purpose address) (presence pages wmap map address size) (spot pages wmap map address) page e
 
   pub reached_place : (map : Map) (purpose : Purpose) (address size : ℕ)
       → Reached (place pages wmap map purpose address size)
-      → (is_open pages wmap map purpose address ≡ true) × (presence pages wmap map address size ≡ Tested.Sound)
+      → (is_open pages wmap map purpose address ≡ true) × (presence pages wmap map address size ≡ Ok tt)
   unfolding place
   reached_place map purpose address size r =
       reached_by (is_open pages wmap map purpose address) (presence pages wmap map address size) (spot pages wmap map address) _ refl r
@@ -203,9 +202,9 @@ module _ (pages : List ℕ) (wmap : ℕ) where
 
   -- a byte store reads and stores at one place
   pub place_both : (map : Map) (address size index : ℕ)
-      → place pages wmap map Purpose.Both address size ≡ Place.Memory index
-      → (place pages wmap map Purpose.Read address size ≡ Place.Memory index)
-      × (place pages wmap map Purpose.Store address size ≡ Place.Memory index)
+      → place pages wmap map Purpose.Both address size ≡ Ok (Place.Memory index)
+      → (place pages wmap map Purpose.Read address size ≡ Ok (Place.Memory index))
+      × (place pages wmap map Purpose.Store address size ≡ Ok (Place.Memory index))
   place_both map address size index e =
       let tests = reached_place map Purpose.Both address size (rw e Reached.at_word) in
       let reads = is_open pages wmap map Purpose.Read address in
@@ -218,12 +217,12 @@ module _ (pages : List ℕ) (wmap : ℕ) where
 
   -- addresses 0 and 1 of the Execute map
   pub place_a : (purpose : Purpose) (address size : ℕ) → address % 0o100000 ≡ 0
-      → place pages wmap Map.Execute purpose address size ≡ Place.A
+      → place pages wmap Map.Execute purpose address size ≡ Ok Place.A
   unfolding place is_open presence spot
   place_a purpose address size e = rw e
 
   pub place_b : (purpose : Purpose) (address size : ℕ) → address % 0o100000 ≡ 1
-      → place pages wmap Map.Execute purpose address size ≡ Place.B
+      → place pages wmap Map.Execute purpose address size ≡ Ok Place.B
   unfolding place is_open presence spot
   place_b purpose address size e = rw e
 
@@ -270,16 +269,16 @@ module _ (pages : List ℕ) (wmap : ℕ) where
   -- after the tests of a read succeed, it answers a word
   pub fetched_reached : (memory : List ℕ) (map : Map) (address a b : ℕ)
       → is_open pages wmap map Purpose.Read address ≡ true
-      → presence pages wmap map address (length memory) ≡ Tested.Sound
-      → (word : ℕ) × (fetched pages memory wmap map address a b ≡ Got.Value word)
+      → presence pages wmap map address (length memory) ≡ Ok tt
+      → (word : ℕ) × (fetched pages memory wmap map address a b ≡ Ok word)
   unfolding fetched
   fetched_reached memory map address a b e f =
       rw (place_reached map Purpose.Read address (length memory) e f)
-      (held_word (spot pages wmap map address) memory a b (spot_reached map address))
+      (held_word (Ok (spot pages wmap map address)) memory a b (spot_reached map address))
 
   -- a read depends only on the word at its place
   pub fetched_same : (m n : List ℕ) (map : Map) (address a b : ℕ) → length m ≡ length n
-      → ((index : ℕ) → place pages wmap map Purpose.Read address (length m) ≡ Place.Memory index → get_or m index 0 ≡ get_or n index 0)
+      → ((index : ℕ) → place pages wmap map Purpose.Read address (length m) ≡ Ok (Place.Memory index) → get_or m index 0 ≡ get_or n index 0)
       → fetched pages m wmap map address a b ≡ fetched pages n wmap map address a b
   unfolding fetched
   fetched_same m n map address a b e h =
@@ -287,7 +286,7 @@ module _ (pages : List ℕ) (wmap : ℕ) where
       ∙ ap (λ (size : ℕ). held (place pages wmap map Purpose.Read address size) n a b) e
 
   pub fetched_unprotected : (memory : List ℕ) (map : Map) (address a b : ℕ) → protecting wmap ≡ false
-      → fetched pages memory wmap map address a b ≡ Got.Ends Trouble.Closed → ⊥
+      → fetched pages memory wmap map address a b ≡ Err Trouble.Closed → ⊥
   unfolding fetched
   fetched_unprotected memory map address a b off e =
       let q = closed_place map Purpose.Read address (length memory) (held_ends (place pages wmap map Purpose.Read address (length memory)) memory a b Trouble.Closed e) in
@@ -296,14 +295,14 @@ module _ (pages : List ℕ) (wmap : ℕ) where
 
   -- two accesses that have one place see each other's stores, whatever maps and addresses led there
   pub store_seen : (memory : List ℕ) (map map' : Map) (purpose : Purpose) (address address' value a b index : ℕ)
-      → place pages wmap map purpose address (length memory) ≡ Place.Memory index
-      → place pages wmap map' Purpose.Read address' (length memory) ≡ Place.Memory index
+      → place pages wmap map purpose address (length memory) ≡ Ok (Place.Memory index)
+      → place pages wmap map' Purpose.Read address' (length memory) ≡ Ok (Place.Memory index)
       → fetched pages (put (place pages wmap map purpose address (length memory)) memory value) wmap map' address' a b
-      ≡ Got.Value value
+      ≡ Ok value
   unfolding fetched
   store_seen memory map map' purpose address address' value a b index e f =
       rw (e, length-set, f)
-      (ap Got.Value (get_or-set_same memory index value 0 (place_below map' Purpose.Read address' (length memory) index f)))
+      (ap Ok (get_or-set_same memory index value 0 (place_below map' Purpose.Read address' (length memory) index f)))
 
   -- and two that have different places do not
   pub store_unseen : (memory : List ℕ) (map map' : Map) (purpose : Purpose) (address address' value a b : ℕ)
@@ -318,17 +317,17 @@ module _ (pages : List ℕ) (wmap : ℕ) where
 
   -- a chain depends only on the words at the places that it can read
   pub chain_same : (m n : List ℕ) (word a b : ℕ) → length m ≡ length n
-      → ((address index : ℕ) → place pages wmap Map.Execute Purpose.Read address (length m) ≡ Place.Memory index → get_or m index 0 ≡ get_or n index 0)
+      → ((address index : ℕ) → place pages wmap Map.Execute Purpose.Read address (length m) ≡ Ok (Place.Memory index) → get_or m index 0 ≡ get_or n index 0)
       → chain pages m wmap word a b ≡ chain pages n wmap word a b
   unfolding chain
   chain_same m n word a b e h =
-      ap (λ (read : ℕ → Got). chased read 32768 word) (fun_ext (λ address. fetched_same m n Map.Execute address a b e (h address)))
+      ap (λ (read : ℕ → Result ℕ Trouble). chased read 32768 word) (fun_ext (λ address. fetched_same m n Map.Execute address a b e (h address)))
 
   ---- Pages left open
 
   -- with protection on, a place in memory lies on a page that some register of the three current maps leaves open
   pub place_open : (map : Map) (purpose : Purpose) (address size index : ℕ) → protecting wmap ≡ true
-      → place pages wmap map purpose address size ≡ Place.Memory index
+      → place pages wmap map purpose address size ≡ Ok (Place.Memory index)
       → OpenTo purpose pages wmap (index / 1024)
   place_open map purpose address size index on e =
       let h = in_memory pages wmap map purpose address size index e in
@@ -354,7 +353,7 @@ module _ (pages : List ℕ) (wmap : ℕ) where
       (λ address index e. agree.words index (place_open Map.Execute Purpose.Read address (length m) index on e))
 
   -- and go on agreeing when one value is stored at one place
-  pub put_agree : (p : Place) (m n : List ℕ) (value : ℕ) → Agree pages wmap m n
+  pub put_agree : (p : Result Place Trouble) (m n : List ℕ) (value : ℕ) → Agree pages wmap m n
       → Agree pages wmap (put p m value) (put p n value)
   put_agree p m n value agree =
       record {
@@ -380,22 +379,22 @@ module _ (pages : List ℕ) (wmap : ℕ) where
 
   -- an address word whose bit 15 is clear is the address
   pub chain_direct : (memory : List ℕ) (word a b : ℕ) → bit 15 word ≡ false
-      → chain pages memory wmap word a b ≡ Got.Value (word % 0o100000)
+      → chain pages memory wmap word a b ≡ Ok (word % 0o100000)
   unfolding chain
   chain_direct memory word a b e = chased_ends _ 32768 word e
 
   -- a chain of one level
   pub chain_once : (memory : List ℕ) (word next a b : ℕ) → bit 15 word ≡ true
-      → fetched pages memory wmap Map.Execute word a b ≡ Got.Value next → bit 15 next ≡ false
-      → chain pages memory wmap word a b ≡ Got.Value (next % 0o100000)
+      → fetched pages memory wmap Map.Execute word a b ≡ Ok next → bit 15 next ≡ false
+      → chain pages memory wmap word a b ≡ Ok (next % 0o100000)
   unfolding chain
   chain_once memory word next a b e f g =
       chased_on (execute_word pages memory wmap a b) 32767 word e ∙ rw f (chased_ends (execute_word pages memory wmap a b) 32767 next g)
 
   -- a cell that names itself is endless
   pub chain_itself : (memory : List ℕ) (word a b : ℕ) → bit 15 word ≡ true
-      → fetched pages memory wmap Map.Execute word a b ≡ Got.Value word
-      → chain pages memory wmap word a b ≡ Got.Ends Trouble.Endless
+      → fetched pages memory wmap Map.Execute word a b ≡ Ok word
+      → chain pages memory wmap word a b ≡ Err Trouble.Endless
   unfolding chain
   chain_itself memory word a b e f = chased_itself (execute_word pages memory wmap a b) 32768 word e f
 
@@ -413,9 +412,9 @@ module _ (pages : List ℕ) (wmap : ℕ) where
       32768 word
 
   pub chain_unprotected : (memory : List ℕ) (word a b : ℕ) → protecting wmap ≡ false
-      → chain pages memory wmap word a b ≡ Got.Ends Trouble.Closed → ⊥
+      → chain pages memory wmap word a b ≡ Err Trouble.Closed → ⊥
   unfolding chain
-  chain_unprotected memory word a b off = chased_all (execute_word pages memory wmap a b) (λ c. c ≡ Got.Ends Trouble.Closed → ⊥)
+  chain_unprotected memory word a b off = chased_all (execute_word pages memory wmap a b) (λ c. c ≡ Err Trouble.Closed → ⊥)
       (λ e. never (cc)) (λ w e. never (cc))
       (λ w trouble e f. fetched_unprotected memory Map.Execute w a b off (e ∙ f)) 32768 word
 
@@ -441,19 +440,19 @@ module _ (pages : List ℕ) (wmap : ℕ) where
   ---- Ranges
 
   pub fetched_word : (memory : List ℕ) (map : Map) (address a b word : ℕ) → Words memory → a < 65536 → b < 65536
-      → fetched pages memory wmap map address a b ≡ Got.Value word → word < 65536
+      → fetched pages memory wmap map address a b ≡ Ok word → word < 65536
   unfolding fetched
   fetched_word memory map address a b word h k l e = held_range (place pages wmap map Purpose.Read address (length memory)) memory a b word h k l e
 
-  pub presence_page : (map : Map) (address size page : ℕ) → presence pages wmap map address size ≡ Tested.Ends (Trouble.Absent page) → page < 16384
+  pub presence_page : (map : Map) (address size page : ℕ) → presence pages wmap map address size ≡ Err (Trouble.Absent page) → page < 16384
   presence_page map address size page e = omega (arith, beyond pages wmap map address size page e)
 
   pub place_page : (map : Map) (purpose : Purpose) (address size page : ℕ)
-      → place pages wmap map purpose address size ≡ Place.Ends (Trouble.Absent page) → page < 16384
+      → place pages wmap map purpose address size ≡ Err (Trouble.Absent page) → page < 16384
   place_page map purpose address size page e = presence_page map address size page (absent_place map purpose address size page e)
 
   pub fetched_page : (memory : List ℕ) (map : Map) (address a b page : ℕ)
-      → fetched pages memory wmap map address a b ≡ Got.Ends (Trouble.Absent page) → page < 16384
+      → fetched pages memory wmap map address a b ≡ Err (Trouble.Absent page) → page < 16384
   unfolding fetched
   fetched_page memory map address a b page e =
       place_page map Purpose.Read address (length memory) page
@@ -461,19 +460,19 @@ module _ (pages : List ℕ) (wmap : ℕ) where
 
   -- an absent page lies beyond a memory of whole pages
   pub absent_beyond : (map : Map) (address size page : ℕ) → size % 1024 ≡ 0
-      → presence pages wmap map address size ≡ Tested.Ends (Trouble.Absent page) → size ≤ page * 1024
+      → presence pages wmap map address size ≡ Err (Trouble.Absent page) → size ≤ page * 1024
   absent_beyond map address size page h e = omega (arith, beyond pages wmap map address size page e)
 
-  pub chain_address : (memory : List ℕ) (word a b address : ℕ) → chain pages memory wmap word a b ≡ Got.Value address → address < 32768
+  pub chain_address : (memory : List ℕ) (word a b address : ℕ) → chain pages memory wmap word a b ≡ Ok address → address < 32768
   unfolding chain
   chain_address memory word a b address =
-      chased_all (execute_word pages memory wmap a b) (λ c. c ≡ Got.Value address → address < 32768)
+      chased_all (execute_word pages memory wmap a b) (λ c. c ≡ Ok address → address < 32768)
       (λ e. never (cc)) (λ w e. let q : w % 0o100000 ≡ address = cc in omega arith) (λ w trouble _ e. never (cc))
       32768 word
 
-  pub chain_page : (memory : List ℕ) (word a b page : ℕ) → chain pages memory wmap word a b ≡ Got.Ends (Trouble.Absent page) → page < 16384
+  pub chain_page : (memory : List ℕ) (word a b page : ℕ) → chain pages memory wmap word a b ≡ Err (Trouble.Absent page) → page < 16384
   unfolding chain
   chain_page memory word a b page =
-      chased_all (execute_word pages memory wmap a b) (λ c. c ≡ Got.Ends (Trouble.Absent page) → page < 16384)
+      chased_all (execute_word pages memory wmap a b) (λ c. c ≡ Err (Trouble.Absent page) → page < 16384)
       (λ e. never (cc)) (λ w e. never (cc)) (λ w trouble f e. fetched_page memory Map.Execute w a b page (f ∙ e))
       32768 word

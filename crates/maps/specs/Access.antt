@@ -8,26 +8,27 @@ use Rattle.maps.specs.Pages.{place}
 use Rattle.maps.specs.declared.pages.Map.{Map}
 use Rattle.maps.specs.declared.pages.Purpose.{Purpose}
 use Rattle.maps.specs.declared.pages.Place.{Place}
-use Rattle.maps.specs.declared.troubles.Got.{Got}
+use Rattle.std.specs.Prelude.{Result, Ok, Err}
+use Rattle.maps.specs.declared.troubles.Trouble.{Trouble}
 
 -- `a` and `b` are the words that A and B hold
-abbrev pub held : Place → List ℕ → ℕ → ℕ → Got
-held Place.A memory a b = Got.Value a
-held Place.B memory a b = Got.Value b
-held (Place.Memory index) memory a b = Got.Value (get_or memory index 0)
-held (Place.Ends trouble) memory a b = Got.Ends trouble
+abbrev pub held : Result Place Trouble → List ℕ → ℕ → ℕ → Result ℕ Trouble
+held (Ok Place.A) memory a b = Ok a
+held (Ok Place.B) memory a b = Ok b
+held (Ok (Place.Memory index)) memory a b = Ok (get_or memory index 0)
+held (Err trouble) memory a b = Err trouble
 
-unfoldable pub fetched : List ℕ → List ℕ → ℕ → Map → ℕ → ℕ → ℕ → Got
+unfoldable pub fetched : List ℕ → List ℕ → ℕ → Map → ℕ → ℕ → ℕ → Result ℕ Trouble
 fetched pages memory wmap map address a b =
     held (place pages wmap map Purpose.Read address (length memory)) memory a b
 
 -- memory after a store at a place: one word changed, or none (01, replies 1 and 4: "no memory word changed", "all as given")
-abbrev pub put : Place → List ℕ → ℕ → List ℕ
-put Place.A memory value = memory
-put Place.B memory value = memory
-put (Place.Memory index) memory value = set memory index value
-put (Place.Ends trouble) memory value = memory
+abbrev pub put : Result Place Trouble → List ℕ → ℕ → List ℕ
+put (Ok Place.A) memory value = memory
+put (Ok Place.B) memory value = memory
+put (Ok (Place.Memory index)) memory value = set memory index value
+put (Err trouble) memory value = memory
 
-pub record Stored (pages earlier : List ℕ) (wmap : ℕ) (map : Map) (address value : ℕ) (r : Place) (later : List ℕ) : Type 0 where
+pub record Stored (pages earlier : List ℕ) (wmap : ℕ) (map : Map) (address value : ℕ) (r : Result Place Trouble) (later : List ℕ) : Type 0 where
   pub outcome : r ≡ place pages wmap map Purpose.Store address (length earlier)
   pub memory : later ≡ put (place pages wmap map Purpose.Store address (length earlier)) earlier value

@@ -8,25 +8,25 @@ use Rattle.word.specs.Words.{bit}
 use Rattle.maps.specs.Access.{fetched}
 use Rattle.maps.specs.declared.pages.Map.{Map}
 use Rattle.maps.specs.declared.troubles.Trouble.{Trouble}
-use Rattle.maps.specs.declared.troubles.Got.{Got}
+use Rattle.std.specs.Prelude.{Result, Ok, Err}
 
 -- 01: "An indirect word gives a 15-bit address, and its bit 15 asks for one more level."
 -- `read` is the word at an address, `left` how many words more may be read.
-abbrev pub going_on : Got → (ℕ → Got) → Got
-going_on (Got.Value next) from = from next
-going_on (Got.Ends trouble) from = Got.Ends trouble
+abbrev pub going_on : Result ℕ Trouble → (ℕ → Result ℕ Trouble) → Result ℕ Trouble
+going_on (Ok next) from = from next
+going_on (Err trouble) from = Err trouble
 
-unfoldable pub chased : (ℕ → Got) → ℕ → ℕ → Got
-chased read zero word = cond (bit 15 word) (Got.Ends Trouble.Endless) (Got.Value (word % 0o100000))
+unfoldable pub chased : (ℕ → Result ℕ Trouble) → ℕ → ℕ → Result ℕ Trouble
+chased read zero word = cond (bit 15 word) (Err Trouble.Endless) (Ok (word % 0o100000))
 chased read (suc left) word =
     elim (bit 15 word) [
       | true ↦ going_on (read word) (chased read left)
-      | false ↦ Got.Value (word % 0o100000)
+      | false ↦ Ok (word % 0o100000)
     ]
 
 -- 01: "A chain whose first 32,768 words all ask for more never ends. All chains go through the Execute map."
-abbrev pub execute_word : List ℕ → List ℕ → ℕ → ℕ → ℕ → ℕ → Got
+abbrev pub execute_word : List ℕ → List ℕ → ℕ → ℕ → ℕ → ℕ → Result ℕ Trouble
 execute_word pages memory wmap a b address = fetched pages memory wmap Map.Execute address a b
 
-unfoldable pub chain : List ℕ → List ℕ → ℕ → ℕ → ℕ → ℕ → Got
+unfoldable pub chain : List ℕ → List ℕ → ℕ → ℕ → ℕ → ℕ → Result ℕ Trouble
 chain pages memory wmap word a b = chased (execute_word pages memory wmap a b) 32768 word

@@ -20,7 +20,7 @@ use Rattle.maps.specs.declared.pages.Purpose.TheVariants.{Read, Store, Both}
 use Rattle.maps.specs.declared.pages.Place.{Place}
 use Rattle.maps.specs.Troubles.{number_trouble}
 use Rattle.maps.specs.declared.troubles.Trouble.{Trouble}
-use Rattle.maps.specs.declared.troubles.Tested.{Tested}
+use Rattle.std.specs.Prelude.{Result, Ok, Err}
 
 -- 01: "Page register: bits 0 to 13 physical page, bit 14 store-protected, bit 15 read-protected."
 abbrev pub physical_page : ℕ → ℕ
@@ -84,11 +84,11 @@ is_open pages wmap map purpose address =
     is_register map address || not (protecting wmap && closed_to purpose (register_of pages wmap map address))
 
 -- 01, reply 4: "a physical page beyond the lent memory is accessed". `length` is that of memory, in words.
-unfoldable pub presence : List ℕ → ℕ → Map → ℕ → ℕ → Tested
+unfoldable pub presence : List ℕ → ℕ → Map → ℕ → ℕ → Result Unit Trouble
 presence pages wmap map address length =
     cond (is_register map address || ltb (index_in (register_of pages wmap map address) address) length)
-    Tested.Sound
-    (Tested.Ends (Trouble.Absent (physical_page (register_of pages wmap map address))))
+    (Ok tt)
+    (Err (Trouble.Absent (physical_page (register_of pages wmap map address))))
 
 -- the register or the word of memory that an address names
 unfoldable pub spot : List ℕ → ℕ → Map → ℕ → Place
@@ -98,25 +98,23 @@ spot pages wmap map address =
     (Place.Memory (index_in (register_of pages wmap map address) address))
 
 -- 01: "Each single access tests protection (1) before presence (4)."
-abbrev pub if_present : Tested → Place → Place
-if_present Tested.Sound reached = reached
-if_present (Tested.Ends trouble) reached = Place.Ends trouble
+abbrev pub if_present : Result Unit Trouble → Place → Result Place Trouble
+if_present (Ok tt) reached = Ok reached
+if_present (Err trouble) reached = Err trouble
 
-unfoldable pub place : List ℕ → ℕ → Map → Purpose → ℕ → ℕ → Place
+unfoldable pub place : List ℕ → ℕ → Map → Purpose → ℕ → ℕ → Result Place Trouble
 place pages wmap map purpose address length =
     cond (is_open pages wmap map purpose address)
     (if_present (presence pages wmap map address length) (spot pages wmap map address))
-    (Place.Ends Trouble.Closed)
+    (Err Trouble.Closed)
 
 -- the places of an access that succeeds
-pub data Reached : Place → Type 0 where
-  at_a : Reached Place.A
-  at_b : Reached Place.B
-  at_word : {index : ℕ} → Reached (Place.Memory index)
+pub data Reached : Result Place Trouble → Type 0 where
+  at_a : Reached (Ok Place.A)
+  at_b : Reached (Ok Place.B)
+  at_word : {index : ℕ} → Reached (Ok (Place.Memory index))
 
 -- the paper's number
-abbrev pub number_place : Place → ℕ
-number_place Place.A = 0
-number_place Place.B = 0
-number_place (Place.Memory index) = 0
-number_place (Place.Ends trouble) = number_trouble trouble
+abbrev pub number_place : Result Place Trouble → ℕ
+number_place (Ok reached) = 0
+number_place (Err trouble) = number_trouble trouble

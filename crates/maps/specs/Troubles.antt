@@ -2,8 +2,7 @@
 use Rattle.std.specs.Prelude.{ℕ}
 use Rattle.maps.specs.declared.troubles.Trouble.{Trouble}
 use Rattle.maps.specs.declared.troubles.Trouble.TheVariants.{Closed, Absent, Endless, InRegisters}
-use Rattle.maps.specs.declared.troubles.Got.{Got}
-use Rattle.maps.specs.declared.troubles.Tested.{Tested}
+use Rattle.std.specs.Prelude.{Result, Ok, Err}
 
 -- 01, What a step replies: 1 "a violation was met", 3 "an indirect chain never ends", 4 "a physical page beyond the lent memory is
 -- accessed", 5 "a byte or word .. lies in word 0 or 1 of the Execute map"
@@ -14,10 +13,10 @@ number_trouble (Absent page) = 4
 number_trouble InRegisters = 5
 
 -- 0: nothing stands in the way
-abbrev pub number_got : Got → ℕ
-number_got (Got.Value value) = 0
-number_got (Got.Ends trouble) = number_trouble trouble
+abbrev pub number_got : Result ℕ Trouble → ℕ
+number_got (Ok value) = 0
+number_got (Err trouble) = number_trouble trouble
 
-abbrev pub number_tested : Tested → ℕ
-number_tested Tested.Sound = 0
-number_tested (Tested.Ends trouble) = number_trouble trouble
+abbrev pub number_tested : Result Unit Trouble → ℕ
+number_tested (Ok tt) = 0
+number_tested (Err trouble) = number_trouble trouble

@@ -3,9 +3,10 @@ ghost use Rattle.std.specs.Prelude.{◌<◌, ◌≡◌, length, set};
 ghost use Rattle.maps.specs.Access.{fetched, Stored};
 
 use crate::pages::{Map, Place, Purpose, place_of};
-use crate::troubles::Got;
+use crate::troubles::Trouble;
 
 // `a` and `b` are the words that A and B hold.
+#[tactic(auto, using(crate::proofs::Laws::place_below), unfolding(crate::specs::Access::fetched))]
 pub fn read_word(
     pages: &[u16],
     memory: &[u16],
@@ -14,14 +15,13 @@ pub fn read_word(
     address: u16,
     a: u16,
     b: u16,
-) -> Got
+) -> Result<u16, Trouble>
     ensures { result ≡ fetched pages.now memory.now wmap map address a b }
 {
-    match place_of(pages, wmap, map, Purpose::Read, address, memory.len()) {
-        Place::A => Got::Value(a),
-        Place::B => Got::Value(b),
-        Place::Memory(index) => Got::Value(memory[index]),
-        Place::Ends(trouble) => Got::Ends(trouble),
+    match place_of(pages, wmap, map, Purpose::Read, address, memory.len())? {
+        Place::A => Ok(a),
+        Place::B => Ok(b),
+        Place::Memory(index) => Ok(memory[index]),
     }
 }
 
@@ -34,6 +34,7 @@ fn set_word(memory: &mut [u16], index: usize, value: u16)
 }
 
 // Stores a word of memory. A store to A or B is the caller's to carry out.
+#[tactic(auto, using(crate::proofs::Laws::place_below))]
 pub fn store_word(
     pages: &[u16],
     memory: &mut [u16],
@@ -41,16 +42,12 @@ pub fn store_word(
     map: Map,
     address: u16,
     value: u16,
-) -> Place
+) -> Result<Place, Trouble>
     ensures { Stored pages.now memory.old wmap map address value result memory.new }
 {
-    match place_of(pages, wmap, map, Purpose::Store, address, memory.len()) {
-        Place::A => Place::A,
-        Place::B => Place::B,
-        Place::Memory(index) => {
-            set_word(memory, index, value);
-            Place::Memory(index)
-        }
-        Place::Ends(trouble) => Place::Ends(trouble),
+    let place = place_of(pages, wmap, map, Purpose::Store, address, memory.len())?;
+    if let Place::Memory(index) = place {
+        set_word(memory, index, value);
     }
+    Ok(place)
 }

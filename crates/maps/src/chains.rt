@@ -1,27 +1,42 @@
 // An indirect chain, through the Execute map.
 ghost use Rattle.std.specs.Prelude.{◌≡◌};
+ghost use Rattle.word.specs.Words.{bit};
 ghost use Rattle.maps.specs.Chains.{chain};
 
-use crate::pages::{Map, Place, Purpose, place_of};
-use crate::troubles::{Got, Trouble};
+use crate::access::read_word;
+use crate::pages::Map;
+use crate::troubles::Trouble;
+
+// A chain whose first words, so many, all ask for more never ends.
+const LEVELS: u16 = 32768;
+
+fn is_indirect(word: u16) -> bool
+    ensures { result ≡ bit 15 word }
+{
+    word / 0o100000 % 2 == 1
+}
 
 // Follows an address word: its bit 15 asks for the word that it addresses.
-pub fn follow(pages: &[u16], memory: &[u16], wmap: u16, word: u16, a: u16, b: u16) -> Got
+#[tactic(auto, using(crate::proofs::Accesses::chased_ends, crate::proofs::Accesses::chased_out), unfolding(crate::specs::Chains::chain))]
+pub fn follow(
+    pages: &[u16],
+    memory: &[u16],
+    wmap: u16,
+    word: u16,
+    a: u16,
+    b: u16,
+) -> Result<u16, Trouble>
     ensures { result ≡ chain pages.now memory.now wmap word a b }
 {
     let mut last = word;
-    let mut left: u16 = 32768;
-    while last / 32768 % 2 == 1 {
-        if left == 0 {
-            return Got::Ends(Trouble::Endless);
+    for _ in 0..LEVELS {
+        if !is_indirect(last) {
+            return Ok(last % 0o100000);
         }
-        left -= 1;
-        match place_of(pages, wmap, Map::Execute, Purpose::Read, last, memory.len()) {
-            Place::Memory(index) => last = memory[index],
-            Place::A => last = a,
-            Place::B => last = b,
-            Place::Ends(trouble) => return Got::Ends(trouble),
-        }
+        last = read_word(pages, memory, wmap, Map::Execute, last, a, b)?;
     }
-    Got::Value(last % 32768)
+    if is_indirect(last) {
+        return Err(Trouble::Endless);
+    }
+    Ok(last % 0o100000)
 }

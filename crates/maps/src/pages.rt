@@ -3,10 +3,10 @@ ghost use Rattle.std.specs.Prelude.{◌≡◌, ◌&&◌};
 ghost use Rattle.maps.specs.Pages.{map_number, register_of, protecting, switched, closed_to, index_in};
 ghost use Rattle.maps.specs.Pages.{is_register, is_open, presence, place};
 
-use crate::troubles::{Tested, Trouble};
+use crate::troubles::Trouble;
 
 // The three current maps, which WMAP names.
-#[derive(Clone, Copy)]
+#[derive(Clone, Copy, Debug, PartialEq, Eq)]
 pub enum Map {
     Execute,
     Data1,
@@ -14,20 +14,19 @@ pub enum Map {
 }
 
 // What an access is for. A byte store keeps the other half of its word, and is both.
-#[derive(Clone, Copy)]
+#[derive(Clone, Copy, Debug, PartialEq, Eq)]
 pub enum Purpose {
     Read,
     Store,
     Both,
 }
 
-// Where an access ends: A, B, an index into memory, or trouble.
-#[derive(Clone, Copy)]
+// Where an access ends: A, B, or an index into memory.
+#[derive(Clone, Copy, Debug, PartialEq, Eq)]
 pub enum Place {
     A,
     B,
     Memory(usize),
-    Ends(Trouble),
 }
 
 fn map_number(wmap: u16, map: Map) -> u16
@@ -98,6 +97,7 @@ pub fn is_register(map: Map, address: u16) -> bool
 }
 
 // The test of protection alone.
+#[tactic(auto, unfolding(crate::specs::Pages::is_open))]
 pub fn is_open(pages: &[u16], wmap: u16, map: Map, purpose: Purpose, address: u16) -> bool
     ensures { result ≡ is_open pages.now wmap map purpose address }
 {
@@ -109,17 +109,24 @@ pub fn is_open(pages: &[u16], wmap: u16, map: Map, purpose: Purpose, address: u1
 }
 
 // The test of presence alone, for a memory of `length` words.
-pub fn presence_of(pages: &[u16], wmap: u16, map: Map, address: u16, length: usize) -> Tested
+#[tactic(auto, unfolding(crate::specs::Pages::presence))]
+pub fn presence_of(
+    pages: &[u16],
+    wmap: u16,
+    map: Map,
+    address: u16,
+    length: usize,
+) -> Result<(), Trouble>
     ensures { result ≡ presence pages.now wmap map address length }
 {
     if is_register(map, address) {
-        return Tested::Sound;
+        return Ok(());
     }
     let register = page_register(pages, wmap, map, address);
     if index_of(register, address) < length {
-        return Tested::Sound;
+        return Ok(());
     }
-    Tested::Ends(Trouble::Absent(register % 16384))
+    Err(Trouble::Absent(register % 16384))
 }
 
 // Where an access ends: protection is tested before presence.
@@ -131,23 +138,24 @@ pub fn place_of(
     purpose: Purpose,
     address: u16,
     length: usize,
-) -> Place
+) -> Result<Place, Trouble>
     ensures { result ≡ place pages.now wmap map purpose address length }
 {
     if is_register(map, address) {
         if address % 32768 == 0 {
-            return Place::A;
+            return Ok(Place::A);
         }
-        return Place::B;
+        return Ok(Place::B);
     }
     let register = page_register(pages, wmap, map, address);
     let closed = is_closed(wmap, purpose, register);
     let index = index_of(register, address);
+    let page = register % 16384;
     if closed {
-        return Place::Ends(Trouble::Closed);
+        return Err(Trouble::Closed);
     }
     if index < length {
-        return Place::Memory(index);
+        return Ok(Place::Memory(index));
     }
-    Place::Ends(Trouble::Absent(register % 16384))
+    Err(Trouble::Absent(page))
 }

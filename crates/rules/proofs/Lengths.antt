@@ -19,7 +19,7 @@ use Rattle.maps.specs.Pages.{protecting, is_register}
 use Rattle.maps.specs.declared.pages.Map.TheVariants.{Execute}
 use Rattle.code.specs.Codes.{rows, length_of, privileged}
 use Rattle.acts.specs.Record.{with_register, in_register}
-use Rattle.acts.specs.Acts.{Act, fin, stop, violate, Result, done, violated, refused, bad_call, exec}
+use Rattle.acts.specs.Acts.{Act, fin, stop, violate, Outcome, done, violated, refused, bad_call, exec}
 use Rattle.effects.specs.Ways.{quotient, taken, way_act}
 use Rattle.effects.specs.Group.{shift_place, shift_rotated, altered, alter_skips, alter_ended, alter_skipped, long_rotated, copied_to_index, exchanged, index_stepped, picked, panel_act, is_halt, io_act}
 use Rattle.strings.specs.Strings.{word_at, along, value_of, order_of, comparing, masked}
@@ -231,7 +231,7 @@ module _ (r : Registers) where
       either Here (Gone 1) (protecting r.wmap && privileged w) violate (stop Refusal.NotBuilt) tt tt
 
   -- what a completed action leaves
-  abbrev Left : ℕ → Result → Type 0
+  abbrev Left : ℕ → Outcome → Type 0
   Left n (done s m) = Gone n s
   Left n violated = Unit
   Left n (refused refusal) = Unit

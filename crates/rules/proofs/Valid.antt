@@ -24,7 +24,7 @@ use Rattle.code.specs.Instructions.{reading}
 use Rattle.acts.specs.Record.{with_a, with_b, with_p, with_trap, with_lights, in_register, with_register, in_index, with_index, valid, interrupted, ahead}
 use Rattle.acts.specs.Replies.{number}
 use Rattle.acts.specs.Acts.{Act, fin, stop, violate, load, go_on}
-use Rattle.acts.specs.Acts.{Result, exec, answer}
+use Rattle.acts.specs.Acts.{Outcome, exec, answer}
 use Rattle.effects.specs.Ways.{flagged, quotient, taken, way_act}
 use Rattle.effects.specs.Group.{shift_rotated, alter_ended, alter_skipped, long_rotated, copied_to_index, copied_from_index, exchanged, index_stepped, picked, panel_act, is_halt, io_act}
 use Rattle.strings.specs.Strings.{word_at, along, value_of, order_of, comparing}
@@ -276,7 +276,7 @@ module _ (wmap : ℕ) where
 -- A step.
 
 -- a step's registers are valid, and where it replies 0 WMAP is as it was
-abbrev pub After : Registers → Result → Type 0
+abbrev pub After : Registers → Outcome → Type 0
 After r x = Valid (answer r x).registers × (eqb (number (answer r x).reply) 0 ≡ true → (answer r x).registers.wmap ≡ r.wmap)
 
 carries_sound : (r : Registers) → Valid r → Carries (Sound r.wmap) (λ _. Unit) (After r)

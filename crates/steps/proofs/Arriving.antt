@@ -7,7 +7,6 @@ use mathlib.Core.Path.{◌≡◌, refl}
 use mathlib.Core.List.{List}
 use Rattle.word.specs.Sums.{address}
 use Rattle.maps.specs.declared.pages.Map.{Map}
-use Rattle.maps.specs.declared.troubles.Got.{Got}
 use Rattle.acts.specs.Acts.{Act, load, follow, exec, Performs, Gives}
 use Rattle.effects.specs.Ways.{way_act}
 use Rattle.rules.specs.Rules.{reached, words_of, act}
@@ -17,6 +16,8 @@ use Rattle.effects.specs.declared.ways.Way.{Way}
 use Rattle.rules.specs.declared.actions.Operand.{Operand}
 use Rattle.rules.specs.declared.actions.Action.{Action}
 use Rattle.acts.proofs.Operands.{had_value, Leads}
+use Rattle.std.specs.Prelude.{Result, Ok}
+use Rattle.maps.specs.declared.troubles.Trouble.{Trouble}
 
 -- `at` is the address word of an instruction, which is so many words long
 pub record Starts (pages : List ℕ) (from : Operand) (r : Registers) (m : List ℕ) (at words : ℕ) : Type 0 where
@@ -24,7 +25,7 @@ pub record Starts (pages : List ℕ) (from : Operand) (r : Registers) (m : List 
   pub length : words ≡ words_of from
 
 module _ (pages : List ℕ) (r : Registers) (m : List ℕ) {from : Operand} {at words : ℕ} where
-  pub by_next : {g : Got} {w : ℕ} → from ≡ Operand.Next → Gives pages (load Map.Execute (address r.p 1)) r m g → g ≡ Got.Value w
+  pub by_next : {g : Result ℕ Trouble} {w : ℕ} → from ≡ Operand.Next → Gives pages (load Map.Execute (address r.p 1)) r m g → g ≡ Ok w
       → at ≡ w → words ≡ 2 → Starts pages from r m at words
   by_next e gives f a l = rw (e, a, l) (record { goes = λ k. had_value gives f (λ w. follow w k); length = refl })
 

@@ -12,27 +12,27 @@ use Rattle.maps.specs.declared.pages.Map.{Map}
 use Rattle.maps.specs.declared.pages.Purpose.{Purpose}
 use Rattle.maps.specs.declared.pages.Place.{Place}
 use Rattle.maps.specs.declared.troubles.Trouble.{Trouble}
-use Rattle.maps.specs.declared.troubles.Tested.{Tested}
 use Rattle.acts.specs.Record.{with_b, ahead}
-use Rattle.acts.specs.Acts.{Act, Result, done, refused, troubled, on_got, on_place, on_open, exec}
+use Rattle.acts.specs.Acts.{Act, Outcome, done, refused, troubled, on_got, on_place, on_open, exec}
 use Rattle.strings.specs.Strings.{along, byte_stored}
 use Rattle.acts.specs.declared.record.Registers.{Registers}
 use Rattle.acts.specs.declared.replies.Refusal.{Refusal}
 use Rattle.strings.specs.declared.strings.Element.{Element}
+use Rattle.std.specs.Prelude.{Result, Ok, Err}
 
-abbrev pub ended : Place → Registers → List ℕ → Result
-ended Place.A r m = refused Refusal.InRegisters
-ended Place.B r m = refused Refusal.InRegisters
-ended (Place.Memory i) r m =
+abbrev pub ended : Result Place Trouble → Registers → List ℕ → Outcome
+ended (Ok Place.A) r m = refused Refusal.InRegisters
+ended (Ok Place.B) r m = refused Refusal.InRegisters
+ended (Ok (Place.Memory i)) r m =
     done (ahead 1 (with_b r (along Element.Byte r.b 1))) (set m i (with_byte (is_low_byte r.b) (get_or m i 0) (r.a % 256)))
-ended (Place.Ends t) r m = troubled t
+ended (Err t) r m = troubled t
 
 -- an access whose page is shut or not
-abbrev reach : Bool → Bool → Bool → Bool → ℕ → ℕ → Place
+abbrev reach : Bool → Bool → Bool → Bool → ℕ → ℕ → Result Place Trouble
 reach register first shut inside i page =
     cond (register || not shut)
-    (if_present (cond (register || inside) Tested.Sound (Tested.Ends (Trouble.Absent page))) (cond register (cond first Place.A Place.B) (Place.Memory i)))
-    (Place.Ends Trouble.Closed)
+    (if_present (cond (register || inside) (Ok tt) (Err (Trouble.Absent page))) (cond register (cond first (Ok Place.A) (Ok Place.B)) (Ok (Place.Memory i))))
+    (Err Trouble.Closed)
 
 by_tests : (register first on reads stores inside : Bool) (i page : ℕ) (r : Registers) (m : List ℕ)
     → cond register (refused Refusal.InRegisters)

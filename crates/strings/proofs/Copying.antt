@@ -18,6 +18,7 @@ use Rattle.strings.specs.declared.strings.Element.{Element}
 use Rattle.strings.specs.declared.strings.Element.TheVariants.{Word, Byte}
 use Rattle.strings.proofs.Ranges.{Reaches, reaches_on, lead, leads, move_one}
 use Rattle.strings.proofs.Stretches.{along_on, page_on}
+use Rattle.std.specs.Prelude.{Ok}
 
 carried_length : (u : Element) (i j : ℕ) (m : List ℕ) → length (carried u i j m) ≡ length m
 carried_length Word i j m = length-set m j _
@@ -125,7 +126,7 @@ module _ (pages : List ℕ) (r : Registers) where
   -- what an element's place is told to be
   abbrev pub Told : Element → Map → Purpose → ℕ → List ℕ → ℕ → Type 0
   Told u map purpose at m i =
-      (index : ℕ) → place pages r.wmap map purpose (word_at u at) (length m) ≡ Place.Memory index → i ≡ place_in u index at
+      (index : ℕ) → place pages r.wmap map purpose (word_at u at) (length m) ≡ Ok (Place.Memory index) → i ≡ place_in u index at
 
   told : (u : Element) (map : Map) (purpose : Purpose) (at n : ℕ) (m : List ℕ) {i : ℕ} → 0 < n
       → Reaches pages r.wmap (length m) u map purpose at n → Told u map purpose at m i → Placed u map at i

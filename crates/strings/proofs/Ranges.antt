@@ -13,8 +13,7 @@ use Rattle.maps.specs.declared.pages.Map.{Map}
 use Rattle.maps.specs.declared.pages.Purpose.{Purpose}
 use Rattle.maps.specs.declared.pages.Place.{Place}
 use Rattle.maps.specs.declared.troubles.Trouble.{Trouble}
-use Rattle.maps.specs.declared.troubles.Tested.{Tested}
-use Rattle.acts.specs.Acts.{Act, Result, fin, stop, done, on_open, on_tested, exec, Ends}
+use Rattle.acts.specs.Acts.{Act, Outcome, fin, stop, done, on_open, on_tested, exec, Ends}
 use Rattle.strings.specs.Strings.{word_at, along, purpose_of, touches, opens_all, present_all, moving, touched, all_open, all_present, tested}
 use Rattle.strings.specs.Copies.{place_in, carried}
 use Rattle.acts.specs.declared.record.Registers.{Registers}
@@ -24,6 +23,7 @@ use Rattle.acts.specs.declared.replies.Stepped.{Stepped}
 use Rattle.strings.specs.declared.moves.Move.{Move}
 use Rattle.strings.specs.declared.strings.Element.{Element}
 use Rattle.strings.specs.declared.strings.Element.TheVariants.{Word, Byte}
+use Rattle.std.specs.Prelude.{Result, Ok, Err}
 
 pub never : {X : Type 0} → ◌≡◌ {A = ℕ} 0 1 → X
 never e = absurd (omega arith)
@@ -37,18 +37,18 @@ and_true true c e = (refl, e)
 and_true false c e = never (cc)
 
 -- what goes on to an end has passed
-open_goes : (b : Bool) (x : Result) {s : Registers} {m : List ℕ} → on_open b x ≡ done s m → (b ≡ true) × (x ≡ done s m)
+open_goes : (b : Bool) (x : Outcome) {s : Registers} {m : List ℕ} → on_open b x ≡ done s m → (b ≡ true) × (x ≡ done s m)
 open_goes true x e = (refl, e)
 open_goes false x e = never (cc)
 
-present_goes : (p : Tested) (x : Result) {s : Registers} {m : List ℕ} → on_tested p x ≡ done s m → (p ≡ Tested.Sound) × (x ≡ done s m)
-present_goes Tested.Sound x e = (refl, e)
-present_goes (Tested.Ends Trouble.Closed) x e = never (cc)
-present_goes (Tested.Ends (Trouble.Absent page)) x e = never (cc)
-present_goes (Tested.Ends Trouble.Endless) x e = never (cc)
-present_goes (Tested.Ends Trouble.InRegisters) x e = never (cc)
+present_goes : (p : Result Unit Trouble) (x : Outcome) {s : Registers} {m : List ℕ} → on_tested p x ≡ done s m → (p ≡ Ok tt) × (x ≡ done s m)
+present_goes (Ok tt) x e = (refl, e)
+present_goes (Err Trouble.Closed) x e = never (cc)
+present_goes (Err (Trouble.Absent page)) x e = never (cc)
+present_goes (Err Trouble.Endless) x e = never (cc)
+present_goes (Err Trouble.InRegisters) x e = never (cc)
 
-pub finished : (r : Registers) (m : List ℕ) {x : Result} {t : Registers} {q : Stepped} {l : List ℕ}
+pub finished : (r : Registers) (m : List ℕ) {x : Outcome} {t : Registers} {q : Stepped} {l : List ℕ}
     → x ≡ done t l → q ≡ record { reply = Reply.Completed; registers = t } → Ends r m x q l
 finished r m e f = rw e (record { outcome = f; memory = refl })
 
@@ -56,7 +56,7 @@ module _ (pages : List ℕ) (wmap size : ℕ) (u : Element) (map : Map) (purpose
   pub record InMemory (at : ℕ) : Type 0 where
     pub memory : is_register map (word_at u at) ≡ false
     pub allowed : is_open pages wmap map purpose (word_at u at) ≡ true
-    pub there : presence pages wmap map (word_at u at) size ≡ Tested.Sound
+    pub there : presence pages wmap map (word_at u at) size ≡ Ok tt
 
   unfoldable pub Reaches : ℕ → ℕ → Type 0
   Reaches at zero = Unit
@@ -86,12 +86,12 @@ abbrev pub lead : List ℕ → ℕ → Map → ℕ → ℕ
 lead pages wmap map at = index_in (register_of pages wmap map at) at
 
 module _ (pages : List ℕ) where
-  spot_memory : (wmap : ℕ) (map : Map) (at : ℕ) → is_register map at ≡ false → spot pages wmap map at ≡ Place.Memory (lead pages wmap map at)
+  spot_memory : (wmap : ℕ) (map : Map) (at : ℕ) → is_register map at ≡ false → spot pages wmap map at ≡ Ok (Place.Memory (lead pages wmap map at))
   unfolding spot
   spot_memory wmap map at e = rw e
 
   pub leads : (wmap size : ℕ) (u : Element) (map : Map) (purpose : Purpose) (at : ℕ) → InMemory pages wmap size u map purpose at
-      → place pages wmap map purpose (word_at u at) size ≡ Place.Memory (lead pages wmap map (word_at u at))
+      → place pages wmap map purpose (word_at u at) size ≡ Ok (Place.Memory (lead pages wmap map (word_at u at)))
   leads wmap size u map purpose at h =
       place_reached pages wmap map purpose (word_at u at) size h.allowed h.there ∙ spot_memory wmap map (word_at u at) h.memory
 
@@ -103,7 +103,7 @@ module _ (pages : List ℕ) where
     opens_on u map purpose at zero k m l d e f = absurd (omega arith)
     opens_on u map purpose at (suc n) k m l d e f = let o : suc n - 1 ≡ n = omega arith in rw (o, ← d, ← e, f)
 
-    pub presents_on : (u : Element) (map : Map) (at n : ℕ) (k : Act) (m : List ℕ) {w : ℕ} {p p' : Tested} → 0 < n
+    pub presents_on : (u : Element) (map : Map) (at n : ℕ) (k : Act) (m : List ℕ) {w : ℕ} {p p' : Result Unit Trouble} → 0 < n
         → w ≡ word_at u at → p ≡ presence pages r.wmap map w (length m) → p ≡ p'
         → exec pages (present_all u map at n k) r m ≡ on_tested p' (exec pages (present_all u map (along u at 1) (n - 1) k) r m)
     unfolding exec present_all
@@ -159,12 +159,12 @@ module _ (pages : List ℕ) where
             )
 
     -- the tests of a move told to succeed
-    pub passes : (j : Move) (m : List ℕ) (k : Act) {x o : Bool} {p : Tested}
+    pub passes : (j : Move) (m : List ℕ) (k : Act) {x o : Bool} {p : Result Unit Trouble}
         → x ≡ touched j → x ≡ false
         → ((m : List ℕ) (k : Act) → exec pages (all_open j k) r m ≡ on_open o (exec pages k r m))
         → o ≡ true
         → ((k : Act) → exec pages (all_present j k) r m ≡ on_tested p (exec pages k r m))
-        → p ≡ Tested.Sound
+        → p ≡ Ok tt
         → exec pages (tested j k) r m ≡ exec pages k r m
     passes j m k e g h i q l = rw (← e, g) (h m _ ∙ (rw i (q k ∙ (rw l))))
 

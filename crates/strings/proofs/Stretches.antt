@@ -9,14 +9,14 @@ use Rattle.maps.proofs.Laws.{open_by_page}
 use Rattle.maps.specs.declared.pages.Map.{Map}
 use Rattle.maps.specs.declared.pages.Purpose.{Purpose}
 use Rattle.maps.specs.declared.troubles.Trouble.{Trouble}
-use Rattle.maps.specs.declared.troubles.Tested.{Tested}
-use Rattle.acts.specs.Acts.{Act, Result, on_tested, exec}
+use Rattle.acts.specs.Acts.{Act, Outcome, on_tested, exec}
 use Rattle.strings.specs.Strings.{word_at, along, touches, opens_all, present_all}
 use Rattle.strings.specs.Copies.{per_page, Stretch}
 use Rattle.acts.specs.declared.record.Registers.{Registers}
 use Rattle.strings.specs.declared.strings.Element.{Element}
 use Rattle.strings.specs.declared.strings.Element.TheVariants.{Word, Byte}
 use Rattle.strings.proofs.Ranges.{or_false, opens_on, presents_on}
+use Rattle.std.specs.Prelude.{Result, Ok, Err}
 
 pub along_on : (u : Element) (at j : ℕ) → along u (along u at 1) j ≡ along u at (suc j)
 along_on Word at j = omega arith
@@ -84,16 +84,16 @@ module _ (pages : List ℕ) (r : Registers) where
       ∙ opens_stretch u map purpose (along u at 1) j (n - 1) k m (omega arith) (omega (arith, q.next)) x.1 (sym z ∙ o))
 
   -- on a page, what lies below a word that is present is present; below an absent one the same page may be
-  present_below : (wmap : ℕ) (map : Map) (x y size : ℕ) {p : Tested} → is_register map x ≡ false → is_register map y ≡ false
+  present_below : (wmap : ℕ) (map : Map) (x y size : ℕ) {p : Result Unit Trouble} → is_register map x ≡ false → is_register map y ≡ false
       → x / 1024 % 32 ≡ y / 1024 % 32 → x % 1024 ≤ y % 1024 → presence pages wmap map y size ≡ p
-      → (presence pages wmap map x size ≡ Tested.Sound) ⊎ (presence pages wmap map x size ≡ p)
+      → (presence pages wmap map x size ≡ Ok tt) ⊎ (presence pages wmap map x size ≡ p)
   unfolding presence
   present_below wmap map x y size {p} one two same l e =
       go (ltb (index_in (register_of pages wmap map x) x) size) (ltb (index_in (register_of pages wmap map y) y) size) refl refl (rw two at e)
     where
       go : (a b : Bool) → ltb (index_in (register_of pages wmap map x) x) size ≡ a → ltb (index_in (register_of pages wmap map y) y) size ≡ b
-          → cond b Tested.Sound (Tested.Ends (Trouble.Absent (physical_page (register_of pages wmap map y)))) ≡ p
-          → (presence pages wmap map x size ≡ Tested.Sound) ⊎ (presence pages wmap map x size ≡ p)
+          → cond b (Ok tt) (Err (Trouble.Absent (physical_page (register_of pages wmap map y)))) ≡ p
+          → (presence pages wmap map x size ≡ Ok tt) ⊎ (presence pages wmap map x size ≡ p)
       go true b f g h = inl (rw (one, f))
       go false false f g h = inr (rw (one, f, same) h)
       go false true f g h =
@@ -102,7 +102,7 @@ module _ (pages : List ℕ) (r : Registers) where
           let q : register_of pages wmap map x ≡ register_of pages wmap map y = ap (page_register pages wmap map) same in
           absurd (omega (arith, ap physical_page q))
 
-  presents_stretch : (u : Element) (map : Map) (at j n : ℕ) (k : Act) (m : List ℕ) (p : Tested) → at < 65536
+  presents_stretch : (u : Element) (map : Map) (at j n : ℕ) (k : Act) (m : List ℕ) (p : Result Unit Trouble) → at < 65536
       → suc j ≤ n → at % per_page u + suc j ≤ per_page u → touches u map at n ≡ false
       → presence pages r.wmap map (word_at u (along u at j)) (length m) ≡ p
       → exec pages (present_all u map at n k) r m ≡ on_tested p (exec pages (present_all u map (along u at (suc j)) (n - suc j) k) r m)
@@ -125,12 +125,12 @@ module _ (pages : List ℕ) (r : Registers) where
       below Word at = omega arith
       below Byte at = omega arith
 
-      go : (p : Tested) (z : Result) → exec pages (present_all u map (along u at 1) (n - 1) k) r m ≡ on_tested p z
-          → (presence pages r.wmap map (word_at u at) (length m) ≡ Tested.Sound) ⊎ (presence pages r.wmap map (word_at u at) (length m) ≡ p)
+      go : (p : Result Unit Trouble) (z : Outcome) → exec pages (present_all u map (along u at 1) (n - 1) k) r m ≡ on_tested p z
+          → (presence pages r.wmap map (word_at u at) (length m) ≡ Ok tt) ⊎ (presence pages r.wmap map (word_at u at) (length m) ≡ p)
           → exec pages (present_all u map at n k) r m ≡ on_tested p z
       go p z h (inl f) = presents_on pages r u map at n k m (omega arith) refl refl f ∙ h
-      go Tested.Sound z h (inr f) = presents_on pages r u map at n k m (omega arith) refl refl f ∙ h
-      go (Tested.Ends t) z h (inr f) = presents_on pages r u map at n k m (omega arith) refl refl f
+      go (Ok tt) z h (inr f) = presents_on pages r u map at n k m (omega arith) refl refl f ∙ h
+      go (Err t) z h (inr f) = presents_on pages r u map at n k m (omega arith) refl refl f
 
   pub opens_past : (u : Element) (map : Map) (purpose : Purpose) (at n t : ℕ) (k : Act) (m : List ℕ) {w : ℕ} {b : Bool} → 0 < n
       → Stretch u at n t → touches u map at n ≡ false
@@ -140,7 +140,7 @@ module _ (pages : List ℕ) (r : Registers) where
   opens_past u map purpose at n (suc j) k m l h t d e f =
       opens_stretch u map purpose at j n k m h.within h.page t (rw (← d) (sym e ∙ f))
 
-  pub presents_past : (u : Element) (map : Map) (at n t : ℕ) (k : Act) (m : List ℕ) {last w : ℕ} {p p' : Tested} → 0 < n
+  pub presents_past : (u : Element) (map : Map) (at n t : ℕ) (k : Act) (m : List ℕ) {last w : ℕ} {p p' : Result Unit Trouble} → 0 < n
       → Stretch u at n t → touches u map at n ≡ false → at < 65536
       → last ≡ along u at (t - 1) → w ≡ word_at u last → p ≡ presence pages r.wmap map w (length m) → p ≡ p'
       → exec pages (present_all u map at n k) r m ≡ on_tested p' (exec pages (present_all u map (along u at t) (n - t) k) r m)

@@ -8,22 +8,23 @@ use Rattle.maps.proofs.Laws.{place_below}
 use Rattle.maps.specs.Pages.{place}
 use Rattle.strings.proofs.Ranges.{never}
 use Rattle.strings.proofs.moves.element_place.Goals as goal
+use Rattle.std.specs.Prelude.{Result, Ok, Err}
 
-told : (pages : List ℕ) (wmap : ℕ) (map : Map) (purpose : Purpose) (size : ℕ) {w v index : ℕ} {p q : Place}
-    → w ≡ v → p ≡ place pages wmap map purpose w size → p ≡ q → place pages wmap map purpose v size ≡ Place.Memory index
-    → q ≡ Place.Memory index
+told : (pages : List ℕ) (wmap : ℕ) (map : Map) (purpose : Purpose) (size : ℕ) {w v index : ℕ} {p q : Result Place Trouble}
+    → w ≡ v → p ≡ place pages wmap map purpose w size → p ≡ q → place pages wmap map purpose v size ≡ Ok (Place.Memory index)
+    → q ≡ Ok (Place.Memory index)
 told pages wmap map purpose size e f g h = sym g ∙ f ∙ (rw e h)
 
-same : {i j : ℕ} → Place.Memory i ≡ Place.Memory j → i ≡ j
+same : {i j : ℕ} → Ok (Place.Memory i) ≡ Ok (Place.Memory j) → i ≡ j
 same e = cc
 
-not_a : {X : Type 0} {j : ℕ} → Place.A ≡ Place.Memory j → X
+not_a : {X : Type 0} {j : ℕ} → (Ok Place.A) ≡ Ok (Place.Memory j) → X
 not_a e = never (cc)
 
-not_b : {X : Type 0} {j : ℕ} → Place.B ≡ Place.Memory j → X
+not_b : {X : Type 0} {j : ℕ} → (Ok Place.B) ≡ Ok (Place.Memory j) → X
 not_b e = never (cc)
 
-not_trouble : {X : Type 0} {t : Trouble} {j : ℕ} → Place.Ends t ≡ Place.Memory j → X
+not_trouble : {X : Type 0} {t : Trouble} {j : ℕ} → Err t ≡ Ok (Place.Memory j) → X
 not_trouble e = never (cc)
 
 pub overflow_mul-result : goal.overflow_mul-result
