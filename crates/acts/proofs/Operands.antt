@@ -3,7 +3,8 @@
 --     had_value to had_stop         `exec` of a part, by what a function gave
 --     direct                        an address word with bit 15 clear is the address
 --     Leads, by_chain, by_itself    where an address word leads: by a chain, or it is the address
---     stopping                      trouble leaves the registers that its answer has, and the memory
+--     settled_given                 what an instruction gives has the answer that its outcome has
+--     stopping                      trouble stops an instruction, and leaves the memory
 --     saved                         a store, by its place
 --     ends_last                     what follows a last store may come before it, where the store does not see it
 -- Assumes nothing.
@@ -24,9 +25,9 @@ use Rattle.maps.specs.declared.pages.Map.{Map}
 use Rattle.maps.specs.declared.pages.Purpose.{Purpose}
 use Rattle.maps.specs.declared.pages.Place.{Place}
 use Rattle.acts.specs.Record.{with_a, with_b}
-use Rattle.acts.specs.Acts.{Act, fin, load, save, follow, done, on_place, exec, answer, left, Ends, Performs, troubled, Gives}
+use Rattle.acts.specs.Acts.{Act, fin, load, save, follow, Outcome, done, violated, refused, bad_call, on_place, exec, answer, left, stopped, given, settled, Ends, Performs, troubled, Gives}
+use Rattle.acts.specs.declared.replies.Stop.{Stop}
 use Rattle.acts.specs.declared.record.Registers.{Registers}
-use Rattle.acts.specs.declared.replies.Stepped.{Stepped}
 use Rattle.maps.specs.declared.troubles.Trouble.{Trouble}
 use Rattle.std.specs.Prelude.{Result, Ok, Err}
 
@@ -36,8 +37,21 @@ stays m Trouble.Endless = refl
 stays m (Trouble.Absent page) = refl
 stays m Trouble.InRegisters = refl
 
-pub stopping : {r : Registers} {m : List ℕ} (t : Trouble) {s : Stepped} → s ≡ answer r (troubled t) → Ends r m (troubled t) s m
-stopping {m = m} t e = record { outcome = e; memory = stays m t }
+stops : (t : Trouble) → ◌≡◌ {A = Result Registers Stop} (Err (stopped t)) (given (troubled t))
+stops Trouble.Closed = refl
+stops Trouble.Endless = refl
+stops (Trouble.Absent page) = refl
+stops Trouble.InRegisters = refl
+
+-- what an instruction gives has the answer that its outcome has
+pub settled_given : (r : Registers) (x : Outcome) → settled r (given x) ≡ answer r x
+settled_given r (done s m) = refl
+settled_given r violated = refl
+settled_given r (refused refusal) = refl
+settled_given r bad_call = refl
+
+pub stopping : {m : List ℕ} (t : Trouble) {s : Result Registers Stop} → s ≡ Err (stopped t) → Ends m (troubled t) s m
+stopping {m = m} t e = record { outcome = e ∙ stops t; memory = stays m t }
 
 -- what the two reading functions of `maps` promise
 module _ {pages : List ℕ} {r : Registers} {m : List ℕ} {g : Result ℕ Trouble} where
@@ -53,13 +67,13 @@ module _ {pages : List ℕ} {part : (ℕ → Act) → Act} {r : Registers} {m : 
   pub had_value : {v : ℕ} → g ≡ Ok v → (k : ℕ → Act) → exec pages (part k) r m ≡ exec pages (k v) r m
   had_value e k = rw e at (h.goes k)
 
-  pub had_on : {v : ℕ} {s : Stepped} {n : List ℕ} → g ≡ Ok v → (k : ℕ → Act) → Performs pages (k v) r m s n → Performs pages (part k) r m s n
+  pub had_on : {v : ℕ} {s : Result Registers Stop} {n : List ℕ} → g ≡ Ok v → (k : ℕ → Act) → Performs pages (k v) r m s n → Performs pages (part k) r m s n
   had_on e k h = rw (had_value e k) h
 
   pub had_trouble : {t : Trouble} → g ≡ Err t → (k : ℕ → Act) → exec pages (part k) r m ≡ troubled t
   had_trouble e k = rw e at (h.goes k)
 
-  pub had_stop : {t : Trouble} {s : Stepped} → g ≡ Err t → s ≡ answer r (troubled t) → (k : ℕ → Act) → Performs pages (part k) r m s m
+  pub had_stop : {t : Trouble} {s : Result Registers Stop} → g ≡ Err t → s ≡ Err (stopped t) → (k : ℕ → Act) → Performs pages (part k) r m s m
   had_stop {t = t} e f k = rw (had_trouble e k) (stopping t f)
 
 pub direct : (pages m : List ℕ) (r : Registers) (word : ℕ) (k : ℕ → Act) → word < 0o100000
@@ -103,7 +117,7 @@ saving_last pages map at v f r m w a b =
     ∙ placed f r m v (place pages (f r).wmap map Purpose.Store at (length m)) a b
 
 pub ends_last : (pages : List ℕ) (map : Map) (at v : ℕ) (f : Registers → Registers) (r : Registers) (m : List ℕ)
-    {q from : Registers} {given n : List ℕ} {s : Stepped} → (f r).wmap ≡ r.wmap → f (with_a r v) ≡ with_a (f r) v
-    → f (with_b r v) ≡ with_b (f r) v → q ≡ f r → Ends from given (exec pages (save map at v (fin (λ t. t))) q m) s n
-    → Ends from given (exec pages (save map at v (fin f)) r m) s n
+    {q : Registers} {first n : List ℕ} {s : Result Registers Stop} → (f r).wmap ≡ r.wmap → f (with_a r v) ≡ with_a (f r) v
+    → f (with_b r v) ≡ with_b (f r) v → q ≡ f r → Ends first (exec pages (save map at v (fin (λ t. t))) q m) s n
+    → Ends first (exec pages (save map at v (fin f)) r m) s n
 ends_last pages map at v f r m w a b e h = rw (saving_last pages map at v f r m w a b) (rw e at h)

@@ -16,47 +16,47 @@ use Rattle.word.proofs.Tight.{OneResult}
 use Rattle.acts.specs.Record.{with_a}
 use Rattle.acts.specs.Acts.{Act, fin, violate, Outcome, done, violated, refused, bad_call, exec, troubled, Ends, Gives}
 use Rattle.acts.specs.declared.record.Registers.{Registers}
-use Rattle.acts.specs.declared.replies.Stepped.{Stepped}
+use Rattle.acts.specs.declared.replies.Stop.{Stop}
 use Rattle.maps.specs.declared.troubles.Trouble.{Trouble}
 use Rattle.acts.specs.declared.replies.Refusal.{Refusal}
-use Rattle.acts.proofs.replies.number_of.Kinds as number_of_lem
-use Rattle.acts.proofs.replies.number_of.Reads as number_of_reads
-use Rattle.acts.proofs.replies.completed.Kinds as completed
-use Rattle.acts.proofs.replies.completed.Reads as completed_reads
-use Rattle.acts.proofs.replies.refuse.Kinds as refuse
-use Rattle.acts.proofs.replies.refuse.Reads as refuse_reads
-use Rattle.acts.proofs.replies.violate.Kinds as violates
-use Rattle.acts.proofs.replies.violate.Reads as violates_reads
-use Rattle.acts.proofs.replies.stop_by.Kinds as stop_by
-use Rattle.acts.proofs.replies.stop_by.Reads as stop_by_reads
-use Rattle.acts.proofs.record.fresh_record.Kinds as fresh_record
-use Rattle.acts.proofs.record.fresh_record.Reads as fresh_record_reads
-use Rattle.acts.proofs.record.register.Kinds as register
-use Rattle.acts.proofs.record.register.Reads as register_reads
-use Rattle.acts.proofs.record.set_register.Kinds as set_register
-use Rattle.acts.proofs.record.set_register.Reads as set_register_reads
-use Rattle.acts.proofs.record.index.Kinds as index
-use Rattle.acts.proofs.record.index.Reads as index_reads
-use Rattle.acts.proofs.record.set_index.Kinds as set_index
-use Rattle.acts.proofs.record.set_index.Reads as set_index_reads
-use Rattle.acts.proofs.record.go_to.Kinds as go_to
-use Rattle.acts.proofs.record.go_to.Reads as go_to_reads
-use Rattle.acts.proofs.record.go_ahead.Kinds as go_ahead
-use Rattle.acts.proofs.record.go_ahead.Reads as go_ahead_reads
-use Rattle.acts.proofs.record.skipping.Kinds as skipping
+use Rattle.acts.proofs.replies.settle.Kinds as settle_kinds
+use Rattle.acts.proofs.replies.settle.Reads as settle_reads
+use Rattle.acts.proofs.replies.StopFromTrouble.from.Kinds as stop_from_kinds
+use Rattle.acts.proofs.replies.StopFromTrouble.from.Reads as stop_from_reads
+use Rattle.acts.proofs.replies.U32FromReply.from.Kinds as number_kinds
+use Rattle.acts.proofs.replies.U32FromReply.from.Reads as number_reads
+use Rattle.acts.proofs.record.Registers.fresh.Kinds as fresh_kinds
+use Rattle.acts.proofs.record.Registers.fresh.Reads as fresh_reads
+use Rattle.acts.proofs.record.Registers.register.Kinds as register_kinds
+use Rattle.acts.proofs.record.Registers.register.Reads as register_reads
+use Rattle.acts.proofs.record.Registers.with_register.Kinds as with_register_kinds
+use Rattle.acts.proofs.record.Registers.with_register.Reads as with_register_reads
+use Rattle.acts.proofs.record.Registers.index.Kinds as index_kinds
+use Rattle.acts.proofs.record.Registers.index.Reads as index_reads
+use Rattle.acts.proofs.record.Registers.with_index.Kinds as with_index_kinds
+use Rattle.acts.proofs.record.Registers.with_index.Reads as with_index_reads
+use Rattle.acts.proofs.record.Registers.at.Kinds as at_kinds
+use Rattle.acts.proofs.record.Registers.at.Reads as at_reads
+use Rattle.acts.proofs.record.Registers.ahead.Kinds as ahead_kinds
+use Rattle.acts.proofs.record.Registers.ahead.Reads as ahead_reads
+use Rattle.acts.proofs.record.skipping.Kinds as skipping_kinds
 use Rattle.acts.proofs.record.skipping.Reads as skipping_reads
-use Rattle.acts.proofs.record.go_skipping.Kinds as go_skipping
-use Rattle.acts.proofs.record.go_skipping.Reads as go_skipping_reads
-use Rattle.acts.proofs.record.interrupt.Kinds as interrupt
-use Rattle.acts.proofs.record.interrupt.Reads as interrupt_reads
-use Rattle.acts.proofs.record.is_valid.Kinds as is_valid
-use Rattle.acts.proofs.record.is_valid.Reads as is_valid_reads
-use Rattle.acts.proofs.record.read_record.Kinds as read_record
-use Rattle.acts.proofs.record.read_record.Reads as read_record_reads
-use Rattle.acts.proofs.record.words_of.Kinds as words_of
-use Rattle.acts.proofs.record.words_of.Reads as words_of_reads
-use Rattle.acts.proofs.record.apart.Kinds as apart
-use Rattle.acts.proofs.record.apart.Reads as apart_reads
+use Rattle.acts.proofs.record.Registers.skipping.Kinds as go_skipping_kinds
+use Rattle.acts.proofs.record.Registers.skipping.Reads as go_skipping_reads
+use Rattle.acts.proofs.record.Registers.interrupted.Kinds as interrupted_kinds
+use Rattle.acts.proofs.record.Registers.interrupted.Reads as interrupted_reads
+use Rattle.acts.proofs.record.Registers.is_valid.Kinds as is_valid_kinds
+use Rattle.acts.proofs.record.Registers.is_valid.Reads as is_valid_reads
+use Rattle.acts.proofs.record.Registers.apart.Kinds as apart_kinds
+use Rattle.acts.proofs.record.Registers.apart.Reads as apart_reads
+use Rattle.acts.proofs.record.Registers.read.Kinds as read_kinds
+use Rattle.acts.proofs.record.Registers.read.Reads as read_reads
+use Rattle.acts.proofs.record.Registers.follow.Kinds as follow_kinds
+use Rattle.acts.proofs.record.Registers.follow.Reads as follow_reads
+use Rattle.acts.proofs.record.Registers.from_words.Kinds as from_words_kinds
+use Rattle.acts.proofs.record.Registers.from_words.Reads as from_words_reads
+use Rattle.acts.proofs.record.Registers.to_words.Kinds as to_words_kinds
+use Rattle.acts.proofs.record.Registers.to_words.Reads as to_words_reads
 use Rattle.acts.proofs.reads.get_address.Kinds as get_address
 use Rattle.acts.proofs.reads.get_address.Reads as get_address_reads
 use Rattle.acts.proofs.stores.put_last.Kinds as put_last
@@ -70,8 +70,8 @@ OneMemory n ps r Post memory =
     (κs : Lfts n) (a : Dens κs ps) (x y : (res_t r κs).Denot) (s t : AtExit (ended_of n ps r) κs)
     → Post κs a x s → Post κs a y t → (x ≡ y) × (memory κs s ≡ memory κs t)
 
-pub ends_tight : {r : Registers} {m : List ℕ} {result : Outcome} {x y : Stepped} {n k : List ℕ}
-    → Ends r m result x n → Ends r m result y k → (x ≡ y) × (n ≡ k)
+pub ends_tight : {m : List ℕ} {z : Outcome} {x y : Result Registers Stop} {n k : List ℕ}
+    → Ends m z x n → Ends m z y k → (x ≡ y) × (n ≡ k)
 ends_tight p q = (p.outcome ∙ sym q.outcome, p.memory ∙ sym q.memory)
 
 abbrev in_a : Outcome → ℕ
@@ -133,67 +133,67 @@ gives_tight (Err t) (Err t') p p' =
     let e = sym (p.goes (λ _. violate)) ∙ p'.goes (λ _. violate) in
     ap Err (sym (told t) ∙ ap ended_by e ∙ told t')
 
-pub number_of_tight : OneResult 0 number_of_lem.ps number_of_lem.r number_of_reads.Post
-number_of_tight κs a x y s t p q = p ∙ sym q
+pub settle_tight : OneResult 0 settle_kinds.ps settle_kinds.r settle_reads.Post
+settle_tight κs a x y s t p q = p ∙ sym q
 
-pub completed_tight : OneResult 0 completed.ps completed.r completed_reads.Post
-completed_tight κs a x y s t p q = p ∙ sym q
+pub stop_from_tight : OneResult 0 stop_from_kinds.ps stop_from_kinds.r stop_from_reads.Post
+stop_from_tight κs a x y s t p q = p ∙ sym q
 
-pub refuse_tight : OneResult 0 refuse.ps refuse.r refuse_reads.Post
-refuse_tight κs a x y s t p q = p ∙ sym q
+pub number_tight : OneResult 0 number_kinds.ps number_kinds.r number_reads.Post
+number_tight κs a x y s t p q = p ∙ sym q
 
-pub violate_tight : OneResult 0 violates.ps violates.r violates_reads.Post
-violate_tight κs a x y s t p q = p ∙ sym q
+pub fresh_tight : OneResult 0 fresh_kinds.ps fresh_kinds.r fresh_reads.Post
+fresh_tight κs a x y s t p q = p ∙ sym q
 
-pub stop_by_tight : OneResult 0 stop_by.ps stop_by.r stop_by_reads.Post
-stop_by_tight κs a x y s t p q = p ∙ sym q
-
-pub fresh_record_tight : OneResult 0 fresh_record.ps fresh_record.r fresh_record_reads.Post
-fresh_record_tight κs a x y s t p q = p ∙ sym q
-
-pub register_tight : OneResult 0 register.ps register.r register_reads.Post
+pub register_tight : OneResult 0 register_kinds.ps register_kinds.r register_reads.Post
 register_tight κs a x y s t p q = p ∙ sym q
 
-pub set_register_tight : OneResult 0 set_register.ps set_register.r set_register_reads.Post
-set_register_tight κs a x y s t p q = p ∙ sym q
+pub with_register_tight : OneResult 0 with_register_kinds.ps with_register_kinds.r with_register_reads.Post
+with_register_tight κs a x y s t p q = p ∙ sym q
 
-pub index_tight : OneResult 0 index.ps index.r index_reads.Post
+pub index_tight : OneResult 0 index_kinds.ps index_kinds.r index_reads.Post
 index_tight κs a x y s t p q = p ∙ sym q
 
-pub set_index_tight : OneResult 0 set_index.ps set_index.r set_index_reads.Post
-set_index_tight κs a x y s t p q = p ∙ sym q
+pub with_index_tight : OneResult 0 with_index_kinds.ps with_index_kinds.r with_index_reads.Post
+with_index_tight κs a x y s t p q = p ∙ sym q
 
-pub go_to_tight : OneResult 0 go_to.ps go_to.r go_to_reads.Post
-go_to_tight κs a x y s t p q = p ∙ sym q
+pub at_tight : OneResult 0 at_kinds.ps at_kinds.r at_reads.Post
+at_tight κs a x y s t p q = p ∙ sym q
 
-pub go_ahead_tight : OneResult 0 go_ahead.ps go_ahead.r go_ahead_reads.Post
-go_ahead_tight κs a x y s t p q = p ∙ sym q
+pub ahead_tight : OneResult 0 ahead_kinds.ps ahead_kinds.r ahead_reads.Post
+ahead_tight κs a x y s t p q = p ∙ sym q
 
-pub skipping_tight : OneResult 0 skipping.ps skipping.r skipping_reads.Post
+pub skipping_tight : OneResult 0 skipping_kinds.ps skipping_kinds.r skipping_reads.Post
 skipping_tight κs a x y s t p q = p ∙ sym q
 
-pub go_skipping_tight : OneResult 0 go_skipping.ps go_skipping.r go_skipping_reads.Post
+pub go_skipping_tight : OneResult 0 go_skipping_kinds.ps go_skipping_kinds.r go_skipping_reads.Post
 go_skipping_tight κs a x y s t p q = p ∙ sym q
 
-pub interrupt_tight : OneResult 0 interrupt.ps interrupt.r interrupt_reads.Post
-interrupt_tight κs a x y s t p q = p ∙ sym q
+pub interrupted_tight : OneResult 0 interrupted_kinds.ps interrupted_kinds.r interrupted_reads.Post
+interrupted_tight κs a x y s t p q = p ∙ sym q
 
-pub is_valid_tight : OneResult 0 is_valid.ps is_valid.r is_valid_reads.Post
+pub is_valid_tight : OneResult 0 is_valid_kinds.ps is_valid_kinds.r is_valid_reads.Post
 is_valid_tight κs a x y s t p q = p ∙ sym q
 
-pub apart_tight : OneResult 0 apart.ps apart.r apart_reads.Post
+pub apart_tight : OneResult 0 apart_kinds.ps apart_kinds.r apart_reads.Post
 apart_tight κs a x y s t p q = p ∙ sym q
 
-pub read_record_tight : OneResult 1 read_record.ps read_record.r read_record_reads.Post
-read_record_tight κs a x y s t p q = p ∙ sym q
+pub read_tight : OneResult 2 read_kinds.ps read_kinds.r read_reads.Post
+read_tight κs a x y s t p q = p ∙ sym q
 
-pub words_of_tight : OneResult 0 words_of.ps words_of.r words_of_reads.Post
-words_of_tight κs a x y s t p q = p ∙ sym q
+pub follow_tight : OneResult 2 follow_kinds.ps follow_kinds.r follow_reads.Post
+follow_tight κs a x y s t p q = p ∙ sym q
+
+pub from_words_tight : OneResult 1 from_words_kinds.ps from_words_kinds.r from_words_reads.Post
+from_words_tight κs a x y s t p q = p ∙ sym q
+
+pub to_words_tight : OneResult 0 to_words_kinds.ps to_words_kinds.r to_words_reads.Post
+to_words_tight κs a x y s t p q = p ∙ sym q
 
 pub get_address_tight : OneResult 2 get_address.ps get_address.r get_address_reads.Post
 get_address_tight κs a x y s t p q = gives_tight x y p q
 
-pub put_last_tight : OneMemory 2 put_last.ps put_last.r put_last_reads.Post (λ κs s. s.1.1.1.1.1.1.0.now)
+pub put_last_tight : OneMemory 2 put_last.ps put_last.r put_last_reads.Post (λ κs s. s.1.1.1.1.1.0.now)
 put_last_tight κs a x y s t p q = ends_tight p q
 
 pub put_tight : OneMemory 2 put.ps put.r put_reads.Post (λ κs s. s.1.1.1.1.1.1.0.now)

@@ -15,17 +15,17 @@ use lib.Seq.{drop-cons}
 use borrow.Author.Tests.{eqb-true, le-leb, leb-true}
 use Rattle.word.specs.Words.{weight}
 use Rattle.acts.specs.declared.record.Registers.{Registers}
-use Rattle.acts.specs.declared.record.Taken.TheVariants.{Record, NoRecord}
+use Rattle.std.specs.Prelude.{Some, None}
 use Rattle.acts.specs.Record.{words_of, is_record, registers_at, registers_of}
 
-pub record_length : (w : List ℕ) (r : Registers) → registers_of w ≡ Record r → length w ≡ 14
+pub record_length : (w : List ℕ) (r : Registers) → registers_of w ≡ Some r → length w ≡ 14
 unfolding registers_of
 record_length w r h = go (eqb (length w) 14) refl
   where
     go : (b : Bool) → eqb (length w) 14 ≡ b → length w ≡ 14
     go true e = eqb-true (length w) 14 e
     go false e =
-        let n : NoRecord ≡ Record r = rw e at h in
+        let n : None ≡ Some r = rw e at h in
         absurd (let z : ◌≡◌ {A = ℕ} 0 1 = cc in omega arith)
 
 parts : (a b : Bool) → (a && b) ≡ true → (a ≡ true) × (b ≡ true)
@@ -39,9 +39,9 @@ flag false = (refl, refl)
 pub at_words : (r : Registers) → registers_at (words_of r) ≡ r
 at_words r = rw ((flag r.e).0, (flag r.o).0) refl
 
-pub registers_again : (r : Registers) → r.switches ≤ 255 → r.lights ≤ 255 → registers_of (words_of r) ≡ Record r
+pub registers_again : (r : Registers) → r.switches ≤ 255 → r.lights ≤ 255 → registers_of (words_of r) ≡ Some r
 unfolding registers_of
-registers_again r s l = rw ((flag r.e).1, (flag r.o).1, le-leb _ _ s, le-leb _ _ l) (ap Record (at_words r))
+registers_again r s l = rw ((flag r.e).1, (flag r.o).1, le-leb _ _ s, le-leb _ _ l) (ap Some (at_words r))
 
 -- the elements of a list from i on, k of them
 abbrev from : ℕ → ℕ → List ℕ → List ℕ
@@ -57,11 +57,11 @@ bit_again zero h = refl
 bit_again (suc zero) h = refl
 bit_again (suc (suc n)) h = absurd (omega arith)
 
-chosen : (t : Bool) (r s : Registers) → cond t (Record s) NoRecord ≡ Record r → (t ≡ true) × (s ≡ r)
+chosen : (t : Bool) (r s : Registers) → cond t (Some s) None ≡ Some r → (t ≡ true) × (s ≡ r)
 chosen true r s h = (refl, cc)
 chosen false r s h = absurd (let z : ◌≡◌ {A = ℕ} 0 1 = cc in omega arith)
 
-pub words_again : (w : List ℕ) (r : Registers) → registers_of w ≡ Record r → words_of r ≡ w
+pub words_again : (w : List ℕ) (r : Registers) → registers_of w ≡ Some r → words_of r ≡ w
 unfolding registers_of
 words_again w r h =
     let t = chosen (is_record w) r (registers_at w) h in

@@ -4,7 +4,8 @@
 --     exec               running one from registers and memory; page registers are only read
 --     go_on              completed, with P elsewhere
 --     operand            the address that an address word after the instruction's first leads to
---     answer, left       the reply and registers of a result, and the memory that it leaves
+--     answer, left       the reply and registers of an outcome, and the memory that it leaves
+--     given, settled     what an instruction gives, and its answer
 --     Performs, Gives    what a function promises that carries out a program, or the reading part of one
 -- A program that ends in trouble has changed nothing, by `answer` and `left`: that is said here, once, for every rule.
 -- Assumes nothing.
@@ -22,6 +23,7 @@ use Rattle.acts.specs.declared.record.Registers.{Registers}
 use Rattle.acts.specs.declared.replies.Refusal.{Refusal}
 use Rattle.acts.specs.declared.replies.Reply.{Reply}
 use Rattle.acts.specs.declared.replies.Stepped.{Stepped}
+use Rattle.acts.specs.declared.replies.Stop.{Stop}
 use Rattle.std.specs.Prelude.{Result, Ok, Err}
 
 pub data Act : Type 0 where
@@ -106,13 +108,33 @@ left m violated = m
 left m (refused refusal) = m
 left m bad_call = m
 
--- what a function that carries out a program promises: its answer, and the memory that it leaves
-pub record Ends (r : Registers) (m : List ℕ) (result : Outcome) (s : Stepped) (n : List ℕ) : Type 0 where
-  pub outcome : s ≡ answer r result
-  pub memory : n ≡ left m result
+-- what an instruction gives: the registers that follow, or why it was not completed
+abbrev pub stopped : Trouble → Stop
+stopped Trouble.Closed = Stop.Violation
+stopped (Trouble.Absent page) = Stop.Refused (Refusal.Absent page)
+stopped Trouble.Endless = Stop.Refused Refusal.Endless
+stopped Trouble.InRegisters = Stop.Refused Refusal.InRegisters
 
-abbrev pub Performs : List ℕ → Act → Registers → List ℕ → Stepped → List ℕ → Type 0
-Performs pages act r m s n = Ends r m (exec pages act r m) s n
+abbrev pub given : Outcome → Result Registers Stop
+given (done s m) = Ok s
+given violated = Err Stop.Violation
+given (refused refusal) = Err (Stop.Refused refusal)
+given bad_call = Err Stop.BadCall
+
+-- the answer by what it gave: that `settled r (given x)` is `answer r x` is in proofs/Operands
+abbrev pub settled : Registers → Result Registers Stop → Stepped
+settled r (Ok s) = record { reply = Reply.Completed; registers = s }
+settled r (Err Stop.Violation) = record { reply = Reply.Violation; registers = interrupted r }
+settled r (Err (Stop.Refused refusal)) = record { reply = Reply.Refused refusal; registers = r }
+settled r (Err Stop.BadCall) = record { reply = Reply.BadCall; registers = r }
+
+-- what a function that carries out a program promises: what it gives, and the memory that it leaves
+pub record Ends (m : List ℕ) (x : Outcome) (s : Result Registers Stop) (n : List ℕ) : Type 0 where
+  pub outcome : s ≡ given x
+  pub memory : n ≡ left m x
+
+abbrev pub Performs : List ℕ → Act → Registers → List ℕ → Result Registers Stop → List ℕ → Type 0
+Performs pages act r m s n = Ends m (exec pages act r m) s n
 
 -- what a function that carries out the reading part of a program promises: however the program goes on, it does so with the
 -- value, or has ended

@@ -6,12 +6,11 @@
 --     interrupted                  the interrupt state of a violation
 --     is_record .. registers_of    the record that words are, if they are one
 -- Assumes nothing.
-use Rattle.std.specs.Prelude.{ℕ, Bool, false, cond, not, ◌&&◌, ◌||◌, List, [], ◌∷◌, eqb, leb, ltb, length, get_or}
+use Rattle.std.specs.Prelude.{ℕ, Bool, false, cond, not, ◌&&◌, ◌||◌, List, [], ◌∷◌, eqb, leb, ltb, length, get_or, Option, Some, None}
 use Rattle.word.specs.Words.{weight}
 use Rattle.word.specs.Sums.{address}
 use Rattle.maps.specs.Pages.{protecting, switched}
 use Rattle.acts.specs.declared.record.Registers.{Registers}
-use Rattle.acts.specs.declared.record.Taken.{Taken}
 use Rattle.code.specs.declared.codes.Register.{Register}
 use Rattle.code.specs.declared.codes.Register.TheVariants.{A, B}
 use Rattle.code.specs.declared.codes.Index.{Index}
@@ -161,5 +160,5 @@ is_record w =
 abbrev pub registers_at : List ℕ → Registers
 registers_at w = made (λ place. get_or w place 0) (λ place. eqb (get_or w place 0) 1)
 
-unfoldable pub registers_of : List ℕ → Taken
-registers_of w = cond (is_record w) (Taken.Record (registers_at w)) Taken.NoRecord
+unfoldable pub registers_of : List ℕ → Option Registers
+registers_of w = cond (is_record w) (Some (registers_at w)) None

@@ -2,18 +2,14 @@
 ghost use Rattle.acts.specs.Acts.{operand, Gives};
 
 use crate::record::Registers;
-use maps::access::read_word;
-use maps::chains::follow;
 use maps::pages::Map;
-use maps::troubles::Got;
+use maps::troubles::Trouble;
 use word::sums::past;
 
 // Where the word leads that follows the instruction's first by n.
-pub fn get_address(n: u16, r: Registers, pages: &[u16], memory: &[u16]) -> Got
+pub fn get_address(n: u16, r: Registers, pages: &[u16], memory: &[u16]) -> Result<u16, Trouble>
     ensures { Gives pages.now (operand n r) r memory.now result }
 {
-    match read_word(pages, memory, r.wmap, Map::Execute, past(r.p, n), r.a, r.b) {
-        Got::Value(w) => follow(pages, memory, r.wmap, w, r.a, r.b),
-        Got::Ends(t) => Got::Ends(t),
-    }
+    let word = r.read(Map::Execute, past(r.p, n), pages, memory)?;
+    r.follow(word, pages, memory)
 }

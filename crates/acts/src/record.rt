@@ -2,16 +2,21 @@
 ghost use Rattle.std.specs.Prelude.{◌≡◌, ◌+◌};
 ghost use Rattle.word.specs.Words.{weight};
 ghost use Rattle.word.specs.Sums.{address};
+ghost use Rattle.maps.specs.Access.{fetched};
+ghost use Rattle.maps.specs.Chains.{chain};
 ghost use Rattle.acts.specs.Record.{in_register, with_register, in_index, with_index, with_p, fresh, valid, interrupted, ahead, words_of, registers_of};
 
 use code::codes::{Index, Register};
-use maps::pages::{is_protecting, switch_maps};
+use maps::access::read_word;
+use maps::chains::follow;
+use maps::pages::{Map, is_protecting, switch_maps};
+use maps::troubles::Trouble;
 use word::bits::weight_of;
 use word::sums::past;
 
 // The order of the fields is no part of their meaning. In this one no register that most steps change lies
 // beside others that they leave, as such are copied as one number and taken apart again at each step.
-#[derive(Clone, Copy)]
+#[derive(Clone, Copy, Debug, PartialEq, Eq)]
 pub struct Registers {
     pub a: u16,
     pub x: u16,
@@ -29,83 +34,8 @@ pub struct Registers {
     pub lights: u8,
 }
 
-pub fn fresh_record() -> Registers
-    ensures { result ≡ fresh }
-{
-    Registers {
-        a: 0,
-        b: 0,
-        x: 0,
-        y: 0,
-        p: 2,
-        e: false,
-        o: false,
-        wmap: 0,
-        imap: 0,
-        violation: 0,
-        interrupt: 0,
-        trap: 0,
-        switches: 0,
-        lights: 0,
-    }
-}
-
-pub fn register(g: Register, r: Registers) -> u16
-    ensures { result ≡ in_register g r }
-{
-    match g {
-        Register::A => r.a,
-        Register::B => r.b,
-    }
-}
-
-pub fn set_register(g: Register, r: Registers, v: u16) -> Registers
-    ensures { result ≡ with_register g r v }
-{
-    let mut s = r;
-    match g {
-        Register::A => s.a = v,
-        Register::B => s.b = v,
-    }
-    s
-}
-
-pub fn index(i: Index, r: Registers) -> u16
-    ensures { result ≡ in_index i r }
-{
-    match i {
-        Index::X => r.x,
-        Index::Y => r.y,
-    }
-}
-
-pub fn set_index(i: Index, r: Registers, v: u16) -> Registers
-    ensures { result ≡ with_index i r v }
-{
-    let mut s = r;
-    match i {
-        Index::X => s.x = v,
-        Index::Y => s.y = v,
-    }
-    s
-}
-
-pub fn go_to(q: u16, r: Registers) -> Registers
-    ensures { result ≡ with_p r q }
-{
-    let mut s = r;
-    s.p = q;
-    s
-}
-
-// P moved on by n words, in its 15 bits.
-pub fn go_ahead(n: u16, r: Registers) -> Registers
-    ensures { result ≡ ahead n r }
-{
-    let mut s = r;
-    s.p = past(r.p, n);
-    s
-}
+// How many words a record has.
+pub const RECORD_WORDS: usize = 14;
 
 // The address n words past p, and one more where a skip is met.
 pub fn skipping(p: u16, n: u16, skip: bool) -> u16
@@ -114,128 +44,207 @@ pub fn skipping(p: u16, n: u16, skip: bool) -> u16
     past(past(p, n), weight_of(skip))
 }
 
-// P moved on by n words, and one more where a skip is met.
-pub fn go_skipping(n: u16, skip: bool, r: Registers) -> Registers
-    ensures { result ≡ ahead (n + weight skip) r }
-{
-    let mut s = r;
-    s.p = skipping(r.p, n, skip);
-    s
-}
-
-// The interrupt state of a violation.
-pub(crate) fn interrupt(r: Registers) -> Registers
-    ensures { result ≡ interrupted r }
-{
-    let mut s = r;
-    s.violation = r.p;
-    s.interrupt = 7;
-    s.imap = r.wmap;
-    s.wmap = switch_maps(r.wmap);
-    s.trap = 7;
-    s
-}
-
-// Whether every register is in its range, and no trap waits with protection on.
-pub fn is_valid(r: Registers) -> bool
-    ensures { result ≡ valid r }
-{
-    let protected = is_protecting(r.wmap);
-    (r.p < 0o100000)
-        & (r.violation < 0o100000)
-        & ((r.interrupt == 0) | (r.interrupt == 7))
-        & ((r.trap == 0) | (r.trap == 7) & !protected)
-}
-
-// The same record, made field by field: a call that takes it then leaves the caller's own in the processor's registers.
-pub fn apart(r: Registers) -> Registers
-    ensures { result ≡ r }
-{
-    Registers {
-        a: r.a,
-        x: r.x,
-        y: r.y,
-        b: r.b,
-        imap: r.imap,
-        violation: r.violation,
-        p: r.p,
-        interrupt: r.interrupt,
-        wmap: r.wmap,
-        trap: r.trap,
-        e: r.e,
-        o: r.o,
-        switches: r.switches,
-        lights: r.lights,
+impl Registers {
+    pub fn fresh() -> Registers
+        ensures { result ≡ fresh }
+    {
+        Registers {
+            a: 0,
+            b: 0,
+            x: 0,
+            y: 0,
+            p: 2,
+            e: false,
+            o: false,
+            wmap: 0,
+            imap: 0,
+            violation: 0,
+            interrupt: 0,
+            trap: 0,
+            switches: 0,
+            lights: 0,
+        }
     }
-}
 
-// How many words a record has.
-pub const RECORD_WORDS: usize = 14;
+    pub fn register(self, g: Register) -> u16
+        ensures { result ≡ in_register g self }
+    {
+        match g {
+            Register::A => self.a,
+            Register::B => self.b,
+        }
+    }
 
-// The registers that words stand for, if they are a record.
-#[derive(Clone, Copy)]
-pub enum Taken {
-    Record(Registers),
-    NoRecord,
-}
+    pub fn with_register(self, g: Register, v: u16) -> Registers
+        ensures { result ≡ with_register g self v }
+    {
+        match g {
+            Register::A => Registers { a: v, ..self },
+            Register::B => Registers { b: v, ..self },
+        }
+    }
 
-pub fn read_record(words: &[u16]) -> Taken
-    ensures { result ≡ registers_of words.now }
-{
-    if words.len() != RECORD_WORDS {
-        return Taken::NoRecord;
+    pub fn index(self, i: Index) -> u16
+        ensures { result ≡ in_index i self }
+    {
+        match i {
+            Index::X => self.x,
+            Index::Y => self.y,
+        }
     }
-    let e = words[5];
-    let o = words[6];
-    let switches = words[12];
-    let lights = words[13];
-    if 1 < e {
-        return Taken::NoRecord;
-    }
-    if 1 < o {
-        return Taken::NoRecord;
-    }
-    if 255 < switches {
-        return Taken::NoRecord;
-    }
-    if 255 < lights {
-        return Taken::NoRecord;
-    }
-    Taken::Record(Registers {
-        a: words[0],
-        b: words[1],
-        x: words[2],
-        y: words[3],
-        p: words[4],
-        e: e == 1,
-        o: o == 1,
-        wmap: words[7],
-        imap: words[8],
-        violation: words[9],
-        interrupt: words[10],
-        trap: words[11],
-        switches: switches as u8,
-        lights: lights as u8,
-    })
-}
 
-pub fn words_of(r: Registers) -> [u16; 14]
-    ensures { result ≡ words_of r }
-{
-    [
-        r.a,
-        r.b,
-        r.x,
-        r.y,
-        r.p,
-        weight_of(r.e),
-        weight_of(r.o),
-        r.wmap,
-        r.imap,
-        r.violation,
-        r.interrupt,
-        r.trap,
-        r.switches as u16,
-        r.lights as u16,
-    ]
+    pub fn with_index(self, i: Index, v: u16) -> Registers
+        ensures { result ≡ with_index i self v }
+    {
+        match i {
+            Index::X => Registers { x: v, ..self },
+            Index::Y => Registers { y: v, ..self },
+        }
+    }
+
+    // P elsewhere.
+    pub fn at(self, q: u16) -> Registers
+        ensures { result ≡ with_p self q }
+    {
+        Registers { p: q, ..self }
+    }
+
+    // P moved on by n words, in its 15 bits.
+    pub fn ahead(self, n: u16) -> Registers
+        ensures { result ≡ ahead n self }
+    {
+        self.at(past(self.p, n))
+    }
+
+    // P moved on by n words, and one more where a skip is met.
+    pub fn skipping(self, n: u16, skip: bool) -> Registers
+        ensures { result ≡ ahead (n + weight skip) self }
+    {
+        self.at(skipping(self.p, n, skip))
+    }
+
+    // The interrupt state of a violation.
+    pub fn interrupted(self) -> Registers
+        ensures { result ≡ interrupted self }
+    {
+        let mut s = self;
+        s.violation = self.p;
+        s.interrupt = 7;
+        s.imap = self.wmap;
+        s.wmap = switch_maps(self.wmap);
+        s.trap = 7;
+        s
+    }
+
+    // Whether every register is in its range, and no trap waits with protection on.
+    pub fn is_valid(self) -> bool
+        ensures { result ≡ valid self }
+    {
+        (self.p < 0o100000)
+            & (self.violation < 0o100000)
+            & ((self.interrupt == 0) | (self.interrupt == 7))
+            & ((self.trap == 0) | (self.trap == 7) & !is_protecting(self.wmap))
+    }
+
+    // The same record, made field by field: a call that takes it then leaves the caller's own in the processor's registers.
+    pub fn apart(self) -> Registers
+        ensures { result ≡ self }
+    {
+        Registers {
+            a: self.a,
+            x: self.x,
+            y: self.y,
+            b: self.b,
+            imap: self.imap,
+            violation: self.violation,
+            p: self.p,
+            interrupt: self.interrupt,
+            wmap: self.wmap,
+            trap: self.trap,
+            e: self.e,
+            o: self.o,
+            switches: self.switches,
+            lights: self.lights,
+        }
+    }
+
+    // The word at an address of a map.
+    pub fn read(self, map: Map, at: u16, pages: &[u16], memory: &[u16]) -> Result<u16, Trouble>
+        ensures { result ≡ fetched pages.now memory.now self.wmap map at self.a self.b }
+    {
+        read_word(pages, memory, self.wmap, map, at, self.a, self.b)
+    }
+
+    // Where an address word leads.
+    pub fn follow(self, word: u16, pages: &[u16], memory: &[u16]) -> Result<u16, Trouble>
+        ensures { result ≡ chain pages.now memory.now self.wmap word self.a self.b }
+    {
+        follow(pages, memory, self.wmap, word, self.a, self.b)
+    }
+
+    // The record that words are, if they are one.
+    #[tactic(auto, unfolding(crate::specs::Record::registers_of))]
+    pub fn from_words(words: &[u16]) -> Option<Registers>
+        ensures { result ≡ registers_of words.now }
+    {
+        let [
+            a,
+            b,
+            x,
+            y,
+            p,
+            e,
+            o,
+            wmap,
+            imap,
+            violation,
+            interrupt,
+            trap,
+            switches,
+            lights,
+        ] = *words
+        else {
+            return None;
+        };
+        if 1 < e || 1 < o {
+            return None;
+        }
+        Some(Registers {
+            a,
+            b,
+            x,
+            y,
+            p,
+            e: e == 1,
+            o: o == 1,
+            wmap,
+            imap,
+            violation,
+            interrupt,
+            trap,
+            switches: u8::try_from(switches).ok()?,
+            lights: u8::try_from(lights).ok()?,
+        })
+    }
+
+    pub fn to_words(self) -> [u16; RECORD_WORDS]
+        ensures { result ≡ words_of self }
+    {
+        [
+            self.a,
+            self.b,
+            self.x,
+            self.y,
+            self.p,
+            weight_of(self.e),
+            weight_of(self.o),
+            self.wmap,
+            self.imap,
+            self.violation,
+            self.interrupt,
+            self.trap,
+            u16::from(self.switches),
+            u16::from(self.lights),
+        ]
+    }
 }

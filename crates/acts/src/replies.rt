@@ -1,14 +1,13 @@
 // What a step replies. The paper's numbers are in specs/Replies.
 ghost use Rattle.std.specs.Prelude.{◌≡◌};
 ghost use Rattle.acts.specs.Replies.{number};
-ghost use Rattle.acts.specs.Record.{interrupted};
-ghost use Rattle.acts.specs.Acts.{answer, troubled};
+ghost use Rattle.acts.specs.Acts.{stopped, settled};
 
-use crate::record::{Registers, interrupt};
+use crate::record::Registers;
 use maps::troubles::Trouble;
 
 // Why a step is refused. An absent page is told by its number.
-#[derive(Clone, Copy)]
+#[derive(Clone, Copy, Debug, PartialEq, Eq)]
 pub enum Refusal {
     InputOutput,
     Endless,
@@ -18,7 +17,28 @@ pub enum Refusal {
     TrapCell,
 }
 
-#[derive(Clone, Copy)]
+// Why an instruction was not completed.
+#[derive(Clone, Copy, Debug, PartialEq, Eq)]
+pub enum Stop {
+    Violation,
+    Refused(Refusal),
+    BadCall,
+}
+
+impl From<Trouble> for Stop {
+    ghost from_gives = { λ t s. s ≡ stopped t };
+
+    fn from(t: Trouble) -> Stop {
+        match t {
+            Trouble::Closed => Stop::Violation,
+            Trouble::Absent(page) => Stop::Refused(Refusal::Absent(page)),
+            Trouble::Endless => Stop::Refused(Refusal::Endless),
+            Trouble::InRegisters => Stop::Refused(Refusal::InRegisters),
+        }
+    }
+}
+
+#[derive(Clone, Copy, Debug, PartialEq, Eq)]
 pub enum Reply {
     Completed,
     Violation,
@@ -26,82 +46,60 @@ pub enum Reply {
     BadCall,
 }
 
-fn refusal_number(refusal: Refusal) -> u32
-    ensures { result ≡ number (Reply.Refused refusal) }
-{
-    match refusal {
-        Refusal::InputOutput => 2,
-        Refusal::Endless => 3,
-        Refusal::Absent(_) => 4,
-        Refusal::InRegisters => 5,
-        Refusal::NotBuilt => 6,
-        Refusal::TrapCell => 7,
-    }
-}
-
 // The paper's number of a reply.
-pub fn number_of(reply: Reply) -> u32
-    ensures { result ≡ number reply }
-{
-    match reply {
-        Reply::Completed => 0,
-        Reply::Violation => 1,
-        Reply::Refused(refusal) => refusal_number(refusal),
-        Reply::BadCall => 8,
+impl From<Reply> for u32 {
+    ghost from_gives = { λ reply n. n ≡ number reply };
+
+    fn from(reply: Reply) -> u32 {
+        match reply {
+            Reply::Completed => 0,
+            Reply::Violation => 1,
+            Reply::Refused(Refusal::InputOutput) => 2,
+            Reply::Refused(Refusal::Endless) => 3,
+            Reply::Refused(Refusal::Absent(_)) => 4,
+            Reply::Refused(Refusal::InRegisters) => 5,
+            Reply::Refused(Refusal::NotBuilt) => 6,
+            Reply::Refused(Refusal::TrapCell) => 7,
+            Reply::BadCall => 8,
+        }
     }
 }
 
 // The reply with the registers that go with it.
-#[derive(Clone, Copy)]
+#[derive(Clone, Copy, Debug, PartialEq, Eq)]
 pub struct Stepped {
     pub reply: Reply,
     pub registers: Registers,
 }
 
 // A run's reply, the number of its steps that replied 0 or 1, and the registers.
-#[derive(Clone, Copy)]
+#[derive(Clone, Copy, Debug, PartialEq, Eq)]
 pub struct Ran {
     pub reply: Reply,
     pub count: u32,
     pub registers: Registers,
 }
 
-pub fn completed(r: Registers) -> Stepped
-    ensures { result ≡ record { reply = Reply.Completed; registers = r } }
+// What is replied of an instruction that r were given to: a violation interrupts, and a refusal leaves r.
+pub fn settle(outcome: Result<Registers, Stop>, r: Registers) -> Stepped
+    ensures { result ≡ settled r outcome }
 {
-    Stepped {
-        reply: Reply::Completed,
-        registers: r,
-    }
-}
-
-pub fn refuse(refusal: Refusal, r: Registers) -> Stepped
-    ensures { result ≡ record { reply = Reply.Refused refusal; registers = r } }
-{
-    Stepped {
-        reply: Reply::Refused(refusal),
-        registers: r,
-    }
-}
-
-// A violation interrupts.
-pub fn violate(r: Registers) -> Stepped
-    ensures { result ≡ record { reply = Reply.Violation; registers = interrupted r } }
-{
-    Stepped {
-        reply: Reply::Violation,
-        registers: interrupt(r),
-    }
-}
-
-// The step has ended: a violation interrupts, any other trouble leaves the registers as given.
-pub fn stop_by(t: Trouble, r: Registers) -> Stepped
-    ensures { result ≡ answer r (troubled t) }
-{
-    match t {
-        Trouble::Closed => violate(r),
-        Trouble::Absent(page) => refuse(Refusal::Absent(page), r),
-        Trouble::Endless => refuse(Refusal::Endless, r),
-        Trouble::InRegisters => refuse(Refusal::InRegisters, r),
+    match outcome {
+        Ok(s) => Stepped {
+            reply: Reply::Completed,
+            registers: s,
+        },
+        Err(Stop::Violation) => Stepped {
+            reply: Reply::Violation,
+            registers: r.interrupted(),
+        },
+        Err(Stop::Refused(refusal)) => Stepped {
+            reply: Reply::Refused(refusal),
+            registers: r,
+        },
+        Err(Stop::BadCall) => Stepped {
+            reply: Reply::BadCall,
+            registers: r,
+        },
     }
 }

@@ -1,23 +1,26 @@
--- `stores::put_last` meets its contract: by what its calls ensure. Assumes nothing.
-use mathlib.Core.Path.{refl}
+-- `stores::put_last` meets its contract: by the place that the store reached. Assumes nothing.
+use Rattle.std.proofs.Common.{refl, ◌∙◌, ap}
+use Rattle.std.specs.Prelude.{Err}
+use Rattle.std.proofs.lemmas.Result.{err_from_is_err_and}
 use Rattle.acts.specs.Acts.{exec}
 use Rattle.acts.proofs.Operands.{stopping}
 use Rattle.acts.proofs.stores.put_last.Goals as goal
 
 pub returns-in-A : goal.returns-in-A
 unfolding exec
-returns-in-A c = rw (c.store_word.ensures.memory, ← c.store_word.ensures.outcome, c.in-A.is, c.completed.ensures, c.set_register.ensures) (record { outcome = refl; memory = refl })
+returns-in-A c = rw (c.store_word.ensures.memory, ← c.store_word.ensures.outcome, c.in_ok-store_word.was, c.in-A.is, c.with_register.ensures) (record { outcome = refl; memory = refl })
 
 pub returns-in-B : goal.returns-in-B
 unfolding exec
-returns-in-B c = rw (c.store_word.ensures.memory, ← c.store_word.ensures.outcome, c.in-B.is, c.completed-in-B.ensures, c.set_register-in-B.ensures) (record { outcome = refl; memory = refl })
+returns-in-B c = rw (c.store_word.ensures.memory, ← c.store_word.ensures.outcome, c.in_ok-store_word.was, c.in-B.is, c.with_register-in-B.ensures) (record { outcome = refl; memory = refl })
 
 pub returns-in-Memory : goal.returns-in-Memory
 unfolding exec
-returns-in-Memory c = rw (c.store_word.ensures.memory, ← c.store_word.ensures.outcome, c.in-Memory.is, c.completed-in-Memory.ensures) (record { outcome = refl; memory = refl })
+returns-in-Memory c = rw (c.store_word.ensures.memory, ← c.store_word.ensures.outcome, c.in_ok-store_word.was, c.in-Memory.is) (record { outcome = refl; memory = refl })
 
-pub returns-in-Ends : goal.returns-in-Ends
+pub returns-in_err-store_word : goal.returns-in_err-store_word
 unfolding exec
-returns-in-Ends c =
-    rw (c.store_word.ensures.memory, ← c.store_word.ensures.outcome, c.in-Ends.is)
-    (stopping c.in-Ends.t c.stop_by.ensures)
+returns-in_err-store_word c =
+    let p = err_from_is_err_and c.from_residual.result c.from_residual.ensures.1 in
+    rw (c.store_word.ensures.memory, ← c.store_word.ensures.outcome, c.in_err-store_word.was)
+    (stopping c.in_err-store_word.field-0.0 (p.1 ∙ ap Err p.2))
