@@ -4,7 +4,7 @@
 --     stored, addressed    what is stored, and where
 --     storable, way_act    the accesses of each way
 -- Which instruction goes which way is in `Rules` of the crate `rules`. Assumes nothing.
-use Rattle.std.specs.Prelude.{ℕ, ◌+◌, true, false, not, ◌||◌, eqb}
+use Rattle.std.specs.Prelude.{ℕ, ◌+◌, true, false, not, ◌||◌, eqb, Option, Some, None}
 use Rattle.std.specs.Int.Bits.{bit_and, bit_or, bit_xor}
 use Rattle.word.specs.Words.{weight}
 use Rattle.word.specs.Sums.{sum, incremented, address}
@@ -29,9 +29,9 @@ abbrev pub flagged : Sum → Registers → Registers
 flagged t r = with_o (with_e r (r.e || t.carry)) (r.o || t.overflow)
 
 -- 01: "O cleared; with divisor 0 or a quotient outside -32,768 to 32,767, O is set and A and B stay (here)."
-abbrev pub quotient : Quotient → Registers → Registers
-quotient (Quotient.Divided q remainder) r = with_o (with_b (with_a r q) remainder) false
-quotient Quotient.Overflow r = with_o r true
+abbrev pub quotient : Option Quotient → Registers → Registers
+quotient (Some q) r = with_o (with_b (with_a r q.quotient) q.remainder) false
+quotient None r = with_o r true
 
 -- what is done with a word w by an instruction of n words
 abbrev pub taken : Taking → ℕ → ℕ → Registers → Registers

@@ -68,17 +68,20 @@ pub fn set_flags(t: word::sums::Sum, r: Registers) -> Registers
     s
 }
 
-pub fn take_quotient(q: Quotient, r: Registers) -> Registers
+pub fn take_quotient(q: Option<Quotient>, r: Registers) -> Registers
     ensures { result ≡ quotient q r }
 {
     let mut s = r;
     match q {
-        Quotient::Divided(value, remainder) => {
-            s.a = value;
+        Some(Quotient {
+            quotient,
+            remainder,
+        }) => {
+            s.a = quotient;
             s.b = remainder;
             s.o = false;
         }
-        Quotient::Overflow => s.o = true,
+        None => s.o = true,
     }
     s
 }

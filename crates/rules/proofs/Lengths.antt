@@ -11,6 +11,7 @@ use mathlib.Core.Bool.{Bool, true, false, cond, not, ◌&&◌, ◌||◌}
 use mathlib.Core.List.{List}
 use lib.Dec.{T, eqb}
 use borrow.Author.Tests.{eqb-true, not-true}
+use Rattle.std.proofs.Common.{Option, Some, None}
 use Rattle.word.specs.Words.{bit, weight, every_bit_set}
 use Rattle.word.specs.Sums.{incremented, address}
 use Rattle.word.specs.Products.{divided}
@@ -81,9 +82,9 @@ register_p : (g : Register) (r : Registers) (v : ℕ) → (with_register g r v).
 register_p A r v = refl
 register_p B r v = refl
 
-quotient_p : (q : Quotient) (r : Registers) → (quotient q r).p ≡ r.p
-quotient_p (Quotient.Divided q remainder) r = refl
-quotient_p Quotient.Overflow r = refl
+quotient_p : (q : Option Quotient) (r : Registers) → (quotient q r).p ≡ r.p
+quotient_p (Some q) r = refl
+quotient_p None r = refl
 
 choice_p : (b : Bool) (r s : Registers) {q : ℕ} → r.p ≡ q → s.p ≡ q → (cond b r s).p ≡ q
 choice_p true r s d e = d

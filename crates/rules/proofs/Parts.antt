@@ -6,7 +6,7 @@
 use Prim.Native.Nat.{ℕ, zero, suc, ◌<◌}
 use mathlib.Core.Bool.{Bool, true, false, cond}
 use Rattle.word.specs.Sums.{address}
-use Rattle.word.specs.declared.orders.Order.{Order}
+use Rattle.std.specs.declared.cmp.Ordering.{Ordering}
 use Rattle.maps.specs.Pages.{is_register}
 use Rattle.maps.specs.declared.pages.Map.{Map}
 use Rattle.maps.specs.declared.pages.Map.TheVariants.{Execute}
@@ -28,10 +28,10 @@ module _ (D A : Registers → Type 0) where
   either true x y p q = p
   either false x y p q = q
 
-  pub ordered : (o : Order) (x y z : Act) → Leads D A x → Leads D A y → Leads D A z → Leads D A (on_order o x y z)
-  ordered Order.Smaller x y z p q h = p
-  ordered Order.Equal x y z p q h = q
-  ordered Order.Greater x y z p q h = h
+  pub ordered : (o : Ordering) (x y z : Act) → Leads D A x → Leads D A y → Leads D A z → Leads D A (on_order o x y z)
+  ordered Ordering.Less x y z p q h = p
+  ordered Ordering.Equal x y z p q h = q
+  ordered Ordering.Greater x y z p q h = h
 
   pub opens : (u : Element) (map : Map) (purpose : Purpose) (at n : ℕ) (k : Act) → Leads D A k → Leads D A (opens_all u map purpose at n k)
   unfolding opens_all

@@ -11,6 +11,7 @@ use mathlib.Core.Bool.{Bool, true, false, cond, not, ◌&&◌, ◌||◌}
 use mathlib.Core.List.{List}
 use lib.Dec.{eqb, ltb}
 use borrow.Author.Tests.{lt-ltb}
+use Rattle.std.proofs.Common.{Option, Some, None}
 use Rattle.word.specs.Words.{weight, every_bit_set}
 use Rattle.word.specs.Sums.{sum, incremented, decremented, address}
 use Rattle.word.specs.Products.{divided}
@@ -119,9 +120,9 @@ module _ (wmap : ℕ) where
   index_sound X r v h = h
   index_sound Y r v h = h
 
-  quotient_sound : (q : Quotient) (r : Registers) → Sound r → Sound (quotient q r)
-  quotient_sound (Quotient.Divided q remainder) r h = h
-  quotient_sound Quotient.Overflow r h = h
+  quotient_sound : (q : Option Quotient) (r : Registers) → Sound r → Sound (quotient q r)
+  quotient_sound (Some q) r h = h
+  quotient_sound None r h = h
 
   choice_sound : (b : Bool) (r s : Registers) → Sound r → Sound s → Sound (cond b r s)
   choice_sound true r s p q = p

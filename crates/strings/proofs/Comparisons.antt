@@ -3,7 +3,7 @@
 --     ordered, stopped   `exec` of a comparison by what one pair gave
 -- Assumes nothing.
 use Rattle.std.proofs.Common.{◌≡◌, ℕ, zero, suc, ◌-◌, ◌≤◌, List, arith}
-use Rattle.word.specs.declared.orders.Order.{Order}
+use Rattle.std.specs.declared.cmp.Ordering.{Ordering}
 use Rattle.acts.specs.Acts.{Act, fin, exec, troubled}
 use Rattle.strings.specs.Strings.{along, on_order, pairing, compared, comparing, Compares}
 use Rattle.acts.specs.declared.record.Registers.{Registers}
@@ -12,7 +12,7 @@ use Rattle.strings.specs.declared.strings.Element.{Element}
 use Rattle.strings.specs.declared.strings.Pair.{Pair}
 
 -- how the comparison goes on after a pair with n more to come
-abbrev pub turn : Element → ℕ → ℕ → ℕ → ℕ → Order → Act
+abbrev pub turn : Element → ℕ → ℕ → ℕ → ℕ → Ordering → Act
 turn u end s d n o = on_order o (fin (compared 4 s end)) (comparing u end (along u s 1) (along u d 1) n) (fin (compared 5 s end))
 
 turning : (u : Element) (end s d n : ℕ) → 1 ≤ n → comparing u end s d n ≡ pairing u s d (turn u end s d (n - 1))
@@ -23,7 +23,7 @@ turning u end s d (suc n) some =
     rw e
 
 module _ (pages : List ℕ) (u : Element) (end s d n : ℕ) (r : Registers) (m : List ℕ) (some : 1 ≤ n) where
-  pub ordered : {p : Pair} {o : Order} → Compares pages u s d r m p → p ≡ Pair.Ordered o
+  pub ordered : {p : Pair} {o : Ordering} → Compares pages u s d r m p → p ≡ Pair.Ordered o
       → exec pages (comparing u end s d n) r m ≡ exec pages (turn u end s d (n - 1) o) r m
   unfolding Compares
   ordered h e = rw (turning u end s d n some) ((rw e at h) (turn u end s d (n - 1)))

@@ -11,7 +11,7 @@ use Rattle.std.specs.Prelude.{◌≡◌, ℕ, zero, suc, ◌+◌, ◌%◌, Bool,
 use Rattle.word.specs.Words.{bit, weight, byte_of, with_byte, bits_cleared, every_bit_set}
 use Rattle.word.specs.Sums.{address}
 use Rattle.word.specs.Orders.{order_of_words, order_of_bytes}
-use Rattle.word.specs.declared.orders.Order.{Order}
+use Rattle.std.specs.declared.cmp.Ordering.{Ordering}
 use Rattle.maps.specs.Pages.{is_register}
 use Rattle.maps.specs.Bytes.{byte_word, is_low_byte}
 use Rattle.maps.specs.declared.pages.Map.{Map}
@@ -99,21 +99,21 @@ abbrev pub past_ranges : Move → Registers → Registers
 past_ranges j r =
     ahead 3 (with_b (with_a r (along j.element j.source j.count)) (along j.element j.target j.count))
 
-abbrev pub order_of : Element → ℕ → ℕ → Order
+abbrev pub order_of : Element → ℕ → ℕ → Ordering
 order_of Word v w = order_of_words v w
 order_of Byte v w = order_of_bytes v w
 
-abbrev pub on_order : Order → Act → Act → Act → Act
-on_order Order.Smaller smaller equal greater = smaller
-on_order Order.Equal smaller equal greater = equal
-on_order Order.Greater smaller equal greater = greater
+abbrev pub on_order : Ordering → Act → Act → Act → Act
+on_order Ordering.Less smaller equal greater = smaller
+on_order Ordering.Equal smaller equal greater = equal
+on_order Ordering.Greater smaller equal greater = greater
 
 -- the word that holds an element: reply 5 before the access's own tests
 abbrev pub load_element : Element → ℕ → (ℕ → Act) → Act
 load_element u at k = cond (is_register Execute (word_at u at)) (stop Refusal.InRegisters) (load Execute (word_at u at) k)
 
 -- 01: "per pair the first array's element is tested (5, 1, 4), then the second's"
-abbrev pub pairing : Element → ℕ → ℕ → (Order → Act) → Act
+abbrev pub pairing : Element → ℕ → ℕ → (Ordering → Act) → Act
 pairing u s d k = load_element u s (λ v. load_element u d (λ w. k (order_of u (value_of u s v) (value_of u d w))))
 
 -- 01: "A stays at the difference, B ends past its range. All equal: both end past."
@@ -128,8 +128,8 @@ comparing u end s d (suc n) =
 
 -- what the functions of `src/strings.rt` promise of one pair, however the comparison goes on, and of what a comparison found
 unfoldable pub Compares : List ℕ → Element → ℕ → ℕ → Registers → List ℕ → Pair → Type 0
-Compares pages u s d r m (Pair.Ordered o) = (k : Order → Act) → exec pages (pairing u s d k) r m ≡ exec pages (k o) r m
-Compares pages u s d r m (Pair.Ends t) = (k : Order → Act) → exec pages (pairing u s d k) r m ≡ troubled t
+Compares pages u s d r m (Pair.Ordered o) = (k : Ordering → Act) → exec pages (pairing u s d k) r m ≡ exec pages (k o) r m
+Compares pages u s d r m (Pair.Ends t) = (k : Ordering → Act) → exec pages (pairing u s d k) r m ≡ troubled t
 
 abbrev pub concluded : Found → ℕ → Registers → Stepped
 concluded (Found.Equal at) end r = answer r (done (compared 3 at end r) [])

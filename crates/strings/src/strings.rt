@@ -5,6 +5,8 @@ ghost use Rattle.strings.specs.Strings.{word_at, along, value_of, order_of, load
 ghost use Rattle.strings.specs.Strings.{Compares, concluded, byte_loaded, byte_stored, none_to_do, count};
 ghost use Rattle.strings.specs.Strings.{compare_act, masked, mask_act};
 
+use std::cmp::Ordering;
+
 use acts::reads::get_address;
 use acts::record::{Registers, go_ahead, go_to, set_register, skipping};
 use acts::replies::{Stepped, completed, stop_by};
@@ -15,7 +17,7 @@ use maps::bytes::{byte_word, is_low_byte};
 use maps::pages::{Map, Place, Purpose, is_register, place_of};
 use maps::troubles::{Got, Trouble};
 use word::bits::{byte_of, clear_bits, every_bit_set, with_byte};
-use word::orders::{Order, compare_bytes, compare_words};
+use word::orders::{compare_bytes, compare_words};
 use word::sums::past;
 
 // What a string is made of.
@@ -119,7 +121,7 @@ pub fn store_byte(r: Registers, pages: &[u16], memory: &mut [u16]) -> Stepped
 // How one pair compares, or what ends the step.
 #[derive(Clone, Copy)]
 pub enum Pair {
-    Ordered(Order),
+    Ordered(Ordering),
     Ends(Trouble),
 }
 
@@ -133,7 +135,7 @@ pub enum Found {
 }
 
 // The order of the elements at s and d, whose words are v and w.
-fn order_elements(u: Element, s: u16, v: u16, d: u16, w: u16) -> Order
+fn order_elements(u: Element, s: u16, v: u16, d: u16, w: u16) -> Ordering
     ensures { result ≡ order_of u (value_of u s v) (value_of u d w) }
 {
     match u {
@@ -194,9 +196,9 @@ pub(crate) fn compare_strings(
         }
         match compare_pair(u, first, second, r, pages, memory) {
             Pair::Ordered(order) => match order {
-                Order::Smaller => break Found::Smaller(first),
-                Order::Greater => break Found::Greater(first),
-                Order::Equal => {
+                Ordering::Less => break Found::Smaller(first),
+                Ordering::Greater => break Found::Greater(first),
+                Ordering::Equal => {
                     first = go_along(u, first, 1);
                     second = go_along(u, second, 1);
                     left -= 1;

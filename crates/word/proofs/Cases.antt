@@ -4,7 +4,7 @@
 --     lowest_by_negative .. below_lowest_by_negative     the quotients -32,768 and 32,767, and those past them
 --     lowest_double, by_zero                             -2,147,483,648 by -1; divisor 0
 -- Last, for the definitions that no case above meets, values that tell them from near misses. Assumes nothing.
-use Rattle.std.proofs.Common.{◌≡◌, ℕ, Bool, true, false, eqb, [], ◌∷◌, map, pos, negsuc, refl, ap, w16, w32}
+use Rattle.std.proofs.Common.{◌≡◌, ℕ, Bool, true, false, eqb, [], ◌∷◌, map, pos, negsuc, refl, ap, w16, w32, Some, None}
 use lib.Bits.{bit_and, bit_or, bit_xor, and_zero_r}
 use Rattle.word.specs.Words.{weight, complemented, byte_of, with_byte, bits_cleared, every_bit_set, joined}
 use Rattle.word.specs.Signed.{signed, bits_of}
@@ -16,8 +16,7 @@ use Rattle.word.specs.Orders.{order_of_words, order_of_bytes}
 use Rattle.word.specs.declared.shifts.ShiftCode.{ShiftCode}
 use Rattle.word.specs.declared.shifts.ShiftCode.TheVariants.{Als, Ars, Ral, Rar, Alr, Era, Ela, Alf}
 use Rattle.word.specs.declared.long.LongShift.TheVariants.{Asl, Rrl, Asr}
-use Rattle.word.specs.declared.products.Quotient.TheVariants.{Divided, Overflow}
-use Rattle.word.specs.declared.orders.Order.TheVariants.{Smaller, Equal, Greater}
+use Rattle.std.specs.declared.cmp.Ordering.TheVariants.{Less, Equal, Greater}
 
 -- "C1 A 077777, INA: A 100000, O set, E kept": no carry
 pub c1 : incremented 0o077777 ≡ record { word = 0o100000; carry = false; overflow = true }
@@ -39,12 +38,12 @@ unfolding multiplied
 c7 = refl
 
 -- "C8 DIV B 177777, A 177771 by 2: A 177775, B 177777"
-pub c8 : divided 0o177777 0o177771 2 ≡ Divided 0o177775 0o177777
+pub c8 : divided 0o177777 0o177771 2 ≡ Some (record { quotient = 0o177775; remainder = 0o177777 })
 unfolding divided
 c8 = refl
 
 -- "C9 DIV B 0, A 100000 by 1: O 1, A and B kept"
-pub c9 : divided 0 0o100000 1 ≡ Overflow
+pub c9 : divided 0 0o100000 1 ≡ None
 unfolding divided
 c9 = refl
 
@@ -74,37 +73,37 @@ unfolding moved
 exchanged o = refl
 
 -- 32,768 by -1 and -32,768 by 1: the quotient -32,768 is legal, as 32,767 is
-pub lowest_by_negative : divided 0 0o100000 0o177777 ≡ Divided 0o100000 0
+pub lowest_by_negative : divided 0 0o100000 0o177777 ≡ Some (record { quotient = 0o100000; remainder = 0 })
 unfolding divided
 lowest_by_negative = refl
 
-pub lowest_by_positive : divided 0o177777 0o100000 1 ≡ Divided 0o100000 0
+pub lowest_by_positive : divided 0o177777 0o100000 1 ≡ Some (record { quotient = 0o100000; remainder = 0 })
 unfolding divided
 lowest_by_positive = refl
 
-pub highest : divided 0 0o077777 1 ≡ Divided 0o077777 0
+pub highest : divided 0 0o077777 1 ≡ Some (record { quotient = 0o077777; remainder = 0 })
 unfolding divided
 highest = refl
 
 -- -32,768 by -1 is 32,768, and -32,769 by 1 and 32,769 by -1 are -32,769
-pub above_highest : divided 0o177777 0o100000 0o177777 ≡ Overflow
+pub above_highest : divided 0o177777 0o100000 0o177777 ≡ None
 unfolding divided
 above_highest = refl
 
-pub below_lowest : divided 0o177777 0o077777 1 ≡ Overflow
+pub below_lowest : divided 0o177777 0o077777 1 ≡ None
 unfolding divided
 below_lowest = refl
 
-pub below_lowest_by_negative : divided 0 0o100001 0o177777 ≡ Overflow
+pub below_lowest_by_negative : divided 0 0o100001 0o177777 ≡ None
 unfolding divided
 below_lowest_by_negative = refl
 
 -- -2,147,483,648 by -1
-pub lowest_double : divided 0o100000 0 0o177777 ≡ Overflow
+pub lowest_double : divided 0o100000 0 0o177777 ≡ None
 unfolding divided
 lowest_double = refl
 
-pub by_zero : (b a : ℕ) → divided b a 0 ≡ Overflow
+pub by_zero : (b a : ℕ) → divided b a 0 ≡ None
 unfolding divided
 by_zero b a = refl
 
@@ -172,9 +171,9 @@ unfolding multiplied
 signed_product = refl
 
 -- signed words, unsigned bytes
-pub word_orders : (order_of_words 0o177777 0 ≡ Smaller) × (order_of_words 0 0o177777 ≡ Greater) × (order_of_words 5 5 ≡ Equal)
+pub word_orders : (order_of_words 0o177777 0 ≡ Less) × (order_of_words 0 0o177777 ≡ Greater) × (order_of_words 5 5 ≡ Equal)
 unfolding order_of_words
 word_orders = (refl, refl, refl)
 
-pub byte_orders : (order_of_bytes 0o377 0 ≡ Greater) × (order_of_bytes 0 0o377 ≡ Smaller) × (order_of_bytes 5 5 ≡ Equal)
+pub byte_orders : (order_of_bytes 0o377 0 ≡ Greater) × (order_of_bytes 0 0o377 ≡ Less) × (order_of_bytes 5 5 ≡ Equal)
 byte_orders = (refl, refl, refl)

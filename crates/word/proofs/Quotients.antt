@@ -5,7 +5,7 @@
 --     Divides, divided_value, multiplied_value               the answers, read as values
 -- Not here: the signed reading (`Signed`); both ends of the range and 01's cases, computed (`Cases`). The definitions are in
 -- specs/ (`Products`). Assumes nothing.
-use Rattle.std.proofs.Common.{◌≡◌, ℕ, zero, suc, ◌+◌, ◌-◌, ◌*◌, ◌/◌, ◌%◌, ◌^◌, ◌<◌, ◌≤◌, Bool, true, false, cond, not, ◌&&◌, eqb, ◌⊎◌, ℤ, pos, negsuc, ◌+ℤ◌, ◌*ℤ◌, neg_ℤ, nat_abs, sym, refl, ap, ◌∙◌, inl, inr, mod-lt, zero-lt-suc, mul-le-mul, div-add-mod', zero-mul, div-le_self, arith, w16, w32, SFits}
+use Rattle.std.proofs.Common.{◌≡◌, ℕ, zero, suc, ◌+◌, ◌-◌, ◌*◌, ◌/◌, ◌%◌, ◌^◌, ◌<◌, ◌≤◌, Bool, true, false, cond, not, ◌&&◌, eqb, ◌⊎◌, ℤ, pos, negsuc, ◌+ℤ◌, ◌*ℤ◌, neg_ℤ, nat_abs, sym, refl, ap, ◌∙◌, inl, inr, mod-lt, zero-lt-suc, mul-le-mul, div-add-mod', zero-mul, div-le_self, arith, w16, w32, SFits, Some, None}
 use native.Mathlib.Nat.{div-lt_self}
 use borrow.Author.Tests.{eqb-false}
 use lib.IntN.{neg_ℤ-+ℤ}
@@ -16,7 +16,7 @@ use mir.ValLaws.{to_z-Fits, to_z-of_z}
 use Rattle.word.specs.Words.{joined}
 use Rattle.word.specs.Signed.{signed, bits_of, within}
 use Rattle.word.specs.Products.{multiplied, quotient_of, divided}
-use Rattle.word.specs.declared.products.Quotient.TheVariants.{Divided, Overflow}
+use Rattle.word.specs.declared.products.Quotient.{Quotient}
 use Rattle.word.proofs.Signed.{of_value, one_word}
 
 negated_size : (n : ℕ) → nat_abs (neg_ℤ (pos n)) ≡ n
@@ -112,20 +112,21 @@ pub record Divides (z k q r : ℤ) : Type 0 where
   pub size : nat_abs r < nat_abs k
 
 quotient_value : (z k : ℤ) (q r : ℕ) → SFits w16 k → (k ≡ pos 0 → ⊥) → within w16 (quot_z z k) ≡ true
-    → quotient_of z k ≡ Divided q r → Divides z k (signed w16 q) (signed w16 r)
+    → quotient_of z k ≡ Some (record { quotient = q; remainder = r }) → Divides z k (signed w16 q) (signed w16 r)
 quotient_value z k q r k-fits other q-fits e =
-    let q-is : bits_of w16 (quot_z z k) ≡ q = cc in
-    let r-is : bits_of w16 (rem_z z k) ≡ r = cc in
+    let same : ◌≡◌ {A = Quotient} (record { quotient = bits_of w16 (quot_z z k); remainder = bits_of w16 (rem_z z k) }) (record { quotient = q; remainder = r }) = cc in
+    let q-is : bits_of w16 (quot_z z k) ≡ q = ap (λ (x : Quotient). x.quotient) same in
+    let r-is : bits_of w16 (rem_z z k) ≡ r = ap (λ (x : Quotient). x.remainder) same in
     rw (← q-is, ← r-is, of_value w16 (quot_z z k) q-fits, to_z-of_z w16 _ (remainder_fits w16 z k k-fits other))
     (record { dividend = again z k; sign = remainder_sign z k; size = remainder_size z k other })
 
-pub divided_value : (b a m q r : ℕ) → m < 2 ^ 16 → divided b a m ≡ Divided q r
+pub divided_value : (b a m q r : ℕ) → m < 2 ^ 16 → divided b a m ≡ Some (record { quotient = q; remainder = r })
     → Divides (signed w32 (joined b a)) (signed w16 m) (signed w16 q) (signed w16 r)
 unfolding divided
 divided_value b a m q r m-fits e = by (eqb m 0) refl (within w16 (quot_z (signed w32 (joined b a)) (signed w16 m))) refl e
   where
     by : (t : Bool) → eqb m 0 ≡ t → (u : Bool) → within w16 (quot_z (signed w32 (joined b a)) (signed w16 m)) ≡ u
-        → cond (not t && u) (quotient_of (signed w32 (joined b a)) (signed w16 m)) Overflow ≡ Divided q r
+        → cond (not t && u) (quotient_of (signed w32 (joined b a)) (signed w16 m)) None ≡ Some (record { quotient = q; remainder = r })
         → Divides (signed w32 (joined b a)) (signed w16 m) (signed w16 q) (signed w16 r)
     by false m-some true q-fits e =
         quotient_value _ _ q r (to_z-Fits w16 m (record { fits = m-fits }))

@@ -1,12 +1,12 @@
 -- 01, CMW and CBT: "CMW compares signed, CBT unsigned": the first against the second. Assumes nothing.
-use Rattle.std.specs.Prelude.{ℕ, cond, int_lt, nat_lt}
+use Rattle.std.specs.Prelude.{ℕ}
 use Rattle.std.specs.Int.{w16}
+use Rattle.std.specs.Ordering.{nat_cmp, int_cmp}
+use Rattle.std.specs.declared.cmp.Ordering.{Ordering}
 use Rattle.word.specs.Signed.{signed}
-use Rattle.word.specs.declared.orders.Order.{Order}
-use Rattle.word.specs.declared.orders.Order.TheVariants.{Smaller, Equal, Greater}
 
-unfoldable pub order_of_words : ℕ → ℕ → Order
-order_of_words a b = cond (int_lt (signed w16 a) (signed w16 b)) Smaller (cond (int_lt (signed w16 b) (signed w16 a)) Greater Equal)
+unfoldable pub order_of_words : ℕ → ℕ → Ordering
+order_of_words a b = int_cmp (signed w16 a) (signed w16 b)
 
-abbrev pub order_of_bytes : ℕ → ℕ → Order
-order_of_bytes a b = cond (nat_lt a b) Smaller (cond (nat_lt b a) Greater Equal)
+abbrev pub order_of_bytes : ℕ → ℕ → Ordering
+order_of_bytes a b = nat_cmp a b

@@ -3,6 +3,7 @@
 use Prim.Native.Nat.{ℕ}
 use mathlib.Core.Path.{◌≡◌, refl}
 use mathlib.Core.Bool.{false}
+use Rattle.std.proofs.Common.{Option}
 use Rattle.word.specs.Sums.{sum}
 use Rattle.word.specs.Products.{multiplied, divided}
 use Rattle.word.specs.declared.sums.Sum.{Sum}
@@ -33,7 +34,7 @@ module _ (w n : ℕ) (r : Registers) {taking : Taking} {p s : Registers} where
       → s ≡ ahead n p → s ≡ taken taking w n r
   product told made put gone = rw (gone, put, made, told) refl
 
-  divides : {q : Quotient} → taking ≡ Taking.Divide → q ≡ divided r.b r.a w → p ≡ quotient q r → s ≡ ahead n p
+  divides : {q : Option Quotient} → taking ≡ Taking.Divide → q ≡ divided r.b r.a w → p ≡ quotient q r → s ≡ ahead n p
       → s ≡ taken taking w n r
   divides told made put gone = rw (gone, put, made, told) refl
 
