@@ -7,9 +7,9 @@ use native.Mathlib.Omega.{arith}
 use borrow.Author.Tests.{eqb-true, eqb-false, leb-true, leb-false, not-true}
 use lib.Dec.{T, eqb, leb}
 use Rattle.word.specs.Words.{bit}
+use Rattle.std.specs.Prelude.{Some}
 use Rattle.code.specs.declared.instructions.Instruction.{Instruction}
 use Rattle.code.specs.declared.instructions.Instruction.TheVariants.{MemoryReference, ShiftRotate, AlterSkip, InputOutput, LongShift as Shift, Extended, NotBuilt}
-use Rattle.code.specs.declared.instructions.Written.TheVariants.{Word}
 use Rattle.code.specs.Codes.{rows, find_word, privileged}
 use Rattle.code.specs.Instructions.{memory_reference, shift_rotate, alter_skip, input_output, extended, reading, built, writing}
 use Rattle.code.proofs.Digits.{below, under}
@@ -18,14 +18,14 @@ use Rattle.code.proofs.Fields.{memory_again, shift_again, alter_again, io_again,
 use Rattle.code.proofs.Fields.{Reads, is_memory, is_shift, is_alter, is_extended, is_io}
 use Rattle.code.proofs.Rows.{unbuilt, extended_again, exact_read, long_read, not_built_read}
 
-pub word_again : (w : ℕ) → w < 0o200000 → writing (reading w) ≡ Word w
+pub word_again : (w : ℕ) → w < 0o200000 → writing (reading w) ≡ Some w
 word_again w fits = go (leb 2 (w / 0o4000 % 16)) (bit 15 w) (bit 10 w) refl refl refl
   where
     off : (n : ℕ) → eqb (n % 2) 1 ≡ false → n % 2 ≡ 0
     off n h = let z = eqb-false (n % 2) 1 h in omega arith
 
     go :
-        (a b c : Bool) → leb 2 (w / 0o4000 % 16) ≡ a → bit 15 w ≡ b → bit 10 w ≡ c → writing (reading w) ≡ Word w
+        (a b c : Bool) → leb 2 (w / 0o4000 % 16) ≡ a → bit 15 w ≡ b → bit 10 w ≡ c → writing (reading w) ≡ Some w
     go true b c p q r =
         let lead = leb-true 2 (w / 0o4000 % 16) p in rw (is_memory w lead) (memory_again w fits lead)
     go false true true p q r =
@@ -47,7 +47,7 @@ word_again w fits = go (leb 2 (w / 0o4000 % 16)) (bit 15 w) (bit 10 w) refl refl
         let clear10 = off (w / 0o2000) r in
         rw (is_shift w lead clear15 clear10) (shift_again w fits lead clear15 clear10)
 
-pub instruction_again : (i : Instruction) (w : ℕ) → writing i ≡ Word w → Reads w i
+pub instruction_again : (i : Instruction) (w : ℕ) → writing i ≡ Some w → Reads w i
 unfolding writing
 instruction_again (MemoryReference o i c n) w h = memory_read o i c n w h
 instruction_again (ShiftRotate s) w h = shift_read s w h

@@ -11,13 +11,13 @@ use native.Mathlib.Omega.{arith}
 use native.Mathlib.Nat.{div-add-mod', div-one}
 use borrow.Author.Tests.{eqb-true, le-ltb, le-leb, lt-leb, ltb-false}
 use lib.Dec.{eqb, ltb}
+use Rattle.std.specs.Prelude.{Some, None}
 use Rattle.code.specs.declared.instructions.Operation.{Operation}
 use Rattle.code.specs.declared.instructions.IoOperation.{IoOperation}
 use Rattle.code.specs.declared.instructions.ShiftRotate as of_shift_rotate
 use Rattle.code.specs.declared.instructions.AlterSkip as of_alter_skip
 use Rattle.code.specs.declared.instructions.Instruction.{Instruction}
 use Rattle.code.specs.declared.instructions.Instruction.TheVariants.{MemoryReference, ShiftRotate, AlterSkip, InputOutput}
-use Rattle.code.specs.declared.instructions.Written.TheVariants.{Word, NoWord}
 use Rattle.code.specs.Instructions.{flag, operation_code, register_flag, shift_number, alter_number, io_number, word_of}
 use Rattle.code.specs.Instructions.{memory_reference, shift_rotate, alter_skip, input_output, extended, reading, writing}
 use Rattle.code.specs.Instructions.{write_memory_reference, write_shift_rotate, write_alter_skip, write_input_output}
@@ -54,19 +54,19 @@ module _ (w : ℕ) (fits : w < 0o200000) where
   bit_is : (m : ℕ) → flag (eqb (w / m % 2) 1) ≡ w / m % 2
   bit_is m = flag_bit (w / m % 2) (omega arith)
 
-  pub memory_again : 2 ≤ w / 0o4000 % 16 → writing (memory_reference w) ≡ Word w
+  pub memory_again : 2 ≤ w / 0o4000 % 16 → writing (memory_reference w) ≡ Some w
   unfolding writing memory_reference write_memory_reference
   memory_again o =
       let off : w % 0o2000 ≤ 0o1777 = omega arith in
       rw (le-ltb 0o1777 (w % 0o2000) off, bit_is 0o100000, bit_is 0o2000, operation_code_lem (w / 0o4000 % 16) o (omega arith))
-      (ap Word (omega (arith, split 0o2000 2 w, split 0o4000 16 w)))
+      (ap Some (omega (arith, split 0o2000 2 w, split 0o4000 16 w)))
 
   -- what the leading bits leave
   top : w / 0o4000 % 16 < 2 → w / 0o4000 ≡ w / 0o100000 % 2 * 16 + w / 0o4000 % 2
   top lead = omega (arith, split 0o4000 16 w)
 
   module _ (lead : w / 0o4000 % 16 < 2) where
-    pub shift_again : w / 0o100000 % 2 ≡ 0 → w / 0o2000 % 2 ≡ 0 → writing (shift_rotate w) ≡ Word w
+    pub shift_again : w / 0o100000 % 2 ≡ 0 → w / 0o2000 % 2 ≡ 0 → writing (shift_rotate w) ≡ Some w
     unfolding writing shift_rotate write_shift_rotate
     shift_again h15 h10 =
         rw (
@@ -78,12 +78,12 @@ module _ (w : ℕ) (fits : w < 0o200000) where
           shift_number_lem (w / 0o100 % 8) (omega arith),
           shift_number_lem (w % 8) (omega arith),
         )
-        (ap Word
+        (ap Some
         (seven (w % 8) (w / 0o10 % 2) (w / 0o20 % 2) (w / 0o40 % 2) (w / 0o100 % 8) (w / 0o1000 % 2) (w / 0o2000 % 2) (w / 0o4000 % 2)
         (div-add-mod' w 8) (split 0o10 2 w) (split 0o20 2 w) (split 0o40 2 w) (split 0o100 8 w) (split 0o1000 2 w)
         (split 0o2000 2 w) (top lead) h15 h10))
 
-    pub alter_again : w / 0o100000 % 2 ≡ 0 → w / 0o2000 % 2 ≡ 1 → writing (alter_skip w) ≡ Word w
+    pub alter_again : w / 0o100000 % 2 ≡ 0 → w / 0o2000 % 2 ≡ 1 → writing (alter_skip w) ≡ Some w
     unfolding writing alter_skip write_alter_skip
     alter_again h15 h10 =
         rw (
@@ -98,17 +98,17 @@ module _ (w : ℕ) (fits : w < 0o200000) where
           alter_number_lem (w / 0o400 % 4) (omega arith),
           alter_number_lem (w / 0o100 % 4) (omega arith),
         )
-        (ap Word
+        (ap Some
         (ten (w % 2) (w / 2 % 2) (w / 4 % 2) (w / 0o10 % 2) (w / 0o20 % 2) (w / 0o40 % 2) (w / 0o100 % 4) (w / 0o400 % 4) (w / 0o2000 % 2)
         (w / 0o4000 % 2) (div-add-mod' w 2) (split 2 2 w) (split 4 2 w) (split 0o10 2 w) (split 0o20 2 w) (split 0o40 2 w) (split 0o100 4 w)
         (split 0o400 4 w) (split 0o2000 2 w) (top lead) h15 h10))
 
-    pub io_again : w / 0o100000 % 2 ≡ 1 → w / 0o2000 % 2 ≡ 1 → writing (input_output w) ≡ Word w
+    pub io_again : w / 0o100000 % 2 ≡ 1 → w / 0o2000 % 2 ≡ 1 → writing (input_output w) ≡ Some w
     unfolding writing input_output write_input_output
     io_again h15 h10 =
         let select : w % 0o100 ≤ 0o77 = omega arith in
         rw (le-ltb 0o77 (w % 0o100) select, bit_is 0o4000, bit_is 0o1000, io_number_lem (w / 0o100 % 8) (omega arith))
-        (ap Word
+        (ap Some
         (four (w % 0o100) (w / 0o100 % 8) (w / 0o1000 % 2) (w / 0o2000 % 2) (w / 0o4000 % 2)
         (div-add-mod' w 0o100) (split 0o100 8 w) (split 0o1000 2 w) (split 0o2000 2 w) (top lead) h15 h10))
 
@@ -122,8 +122,8 @@ flag_small : (b : Bool) → flag b < 2
 flag_small true = omega arith
 flag_small false = omega arith
 
-pub no_word : {w : ℕ} → NoWord ≡ Word w → ⊥
-no_word h = let z : ◌≡◌ {A = ℕ} 0 1 = cc in omega arith
+pub no_word : {w : ℕ} → None ≡ Some w → ⊥
+no_word h = cc
 
 module _ (w : ℕ) where
   pub is_memory : 2 ≤ w / 0o4000 % 16 → reading w ≡ memory_reference w
@@ -152,7 +152,7 @@ abbrev pub Reads : ℕ → Instruction → Type 0
 Reads w i = (w < 0o200000) × (reading w ≡ i)
 
 pub memory_read :
-    (o : Operation) (i c : Bool) (n w : ℕ) → write_memory_reference o i c n ≡ Word w → Reads w (MemoryReference o i c n)
+    (o : Operation) (i c : Bool) (n w : ℕ) → write_memory_reference o i c n ≡ Some w → Reads w (MemoryReference o i c n)
 unfolding write_memory_reference memory_reference
 memory_read o i c n w e = go (ltb 0o1777 n) refl (operation_range o) (flag_small i) (flag_small c)
   where
@@ -173,7 +173,7 @@ memory_read o i c n w e = go (ltb 0o1777 n) refl (operation_range o) (flag_small
           is_memory w (rw f₁ r.0) ∙ rw (f₁, f₂, f₃, f₄, operation_back o, bit_flag i, bit_flag c),
         )
 
-pub shift_read : (s : of_shift_rotate.ShiftRotate) (w : ℕ) → write_shift_rotate s ≡ Word w → Reads w (ShiftRotate s)
+pub shift_read : (s : of_shift_rotate.ShiftRotate) (w : ℕ) → write_shift_rotate s ≡ Some w → Reads w (ShiftRotate s)
 unfolding write_shift_rotate shift_rotate
 shift_read s w e =
     go (register_flag s.register) (flag s.enabled1) (shift_number s.shift1) (flag s.cle) (flag s.enabled2) (flag s.sla)
@@ -215,7 +215,7 @@ shift_read s w e =
           ),
     )
 
-pub alter_read : (f : of_alter_skip.AlterSkip) (w : ℕ) → write_alter_skip f ≡ Word w → Reads w (AlterSkip f)
+pub alter_read : (f : of_alter_skip.AlterSkip) (w : ℕ) → write_alter_skip f ≡ Some w → Reads w (AlterSkip f)
 unfolding write_alter_skip alter_skip
 alter_read f w e =
     go (register_flag f.register) (alter_number f.alter) (alter_number f.extend) (flag f.sez) (flag f.ssa) (flag f.sla) (flag f.ina) (flag f.sza) (flag f.rss)
@@ -266,7 +266,7 @@ alter_read f w e =
     )
 
 pub io_read :
-    (o : IoOperation) (i c : Bool) (n w : ℕ) → write_input_output o i c n ≡ Word w → Reads w (InputOutput o i c n)
+    (o : IoOperation) (i c : Bool) (n w : ℕ) → write_input_output o i c n ≡ Some w → Reads w (InputOutput o i c n)
 unfolding write_input_output input_output
 io_read o i c n w e =
     go (ltb 0o77 n) refl (flag i) (flag c) (io_number o) refl refl refl (flag_small i) (flag_small c) (io_small o)

@@ -14,14 +14,12 @@ use borrow.Author.Tests.{eqb-true, eqb-false, ne_eqb, lt-ltb, le-ltb, ltb-false,
 use lib.Dec.{T, eqb, ltb, leb}
 use Rattle.word.specs.Words.{bit}
 use Rattle.word.specs.declared.long.LongShift.{LongShift}
+use Rattle.std.specs.Prelude.{Option, Some, None}
 use Rattle.code.specs.declared.codes.Extended as of_extended
 use Rattle.code.specs.declared.codes.Kind.{Kind}
 use Rattle.code.specs.declared.codes.Kind.TheVariants.{Exact, Long}
 use Rattle.code.specs.declared.codes.Entry.{Entry}
-use Rattle.code.specs.declared.codes.Found.{Found}
-use Rattle.code.specs.declared.codes.Found.TheVariants.{At, Nothing}
 use Rattle.code.specs.declared.instructions.Instruction.TheVariants.{LongShift as Shift, Extended, NotBuilt}
-use Rattle.code.specs.declared.instructions.Written.TheVariants.{Word, NoWord}
 use Rattle.code.specs.Kinds.{number, same}
 use Rattle.code.specs.Codes.{rows, covers, find_word, find_kind}
 use Rattle.code.specs.Instructions.{memory_reference, shift_rotate, alter_skip, input_output, places, of_kind, extended, reading, writing, built, word_of}
@@ -34,13 +32,13 @@ use Rattle.code.proofs.Fields.{is_extended, no_word, Reads}
 
 -- the tests of a row
 
-abbrev found_at : Found → ℕ → Bool
-found_at (At r) code = eqb r.code code
-found_at Nothing code = false
+abbrev found_at : Option Entry → ℕ → Bool
+found_at (Some r) code = eqb r.code code
+found_at None code = false
 
-abbrev found_kind : Found → Kind → Bool
-found_kind (At r) kind = same r.kind kind
-found_kind Nothing kind = false
+abbrev found_kind : Option Entry → Kind → Bool
+found_kind (Some r) kind = same r.kind kind
+found_kind None kind = false
 
 -- bits 15 to 12 are 1000 and bit 10 is clear
 abbrev in_group : ℕ → Bool
@@ -71,11 +69,11 @@ codes_clean = tt
 
 -- what a word of the group reads as, from what the search finds
 
-known : (w : ℕ) (e : Entry) → find_word w ≡ At e → extended w ≡ of_kind e.kind w
+known : (w : ℕ) (e : Entry) → find_word w ≡ Some e → extended w ≡ of_kind e.kind w
 unfolding extended
 known w e h = rw (h, extended)
 
-unknown : (w : ℕ) → find_word w ≡ Nothing → extended w ≡ NotBuilt w
+unknown : (w : ℕ) → find_word w ≡ None → extended w ≡ NotBuilt w
 unfolding extended
 unknown w h = rw (h, extended)
 
@@ -88,9 +86,9 @@ reads_as w k g t = is_extended w (omega (arith, lead)) (omega (arith, lead)) ten
     ten : w / 0o2000 % 2 ≡ 0
     ten = eqb-true (w / 0o2000 % 2) 0 (both (eqb (w / 0o10000) 8) (eqb (w / 0o2000 % 2) 0) g).1
 
-    go : (f : Found) → find_word w ≡ f → found_kind f k ≡ true → extended w ≡ of_kind k w
-    go (At e) h s = known w e h ∙ ap (λ (j : Kind). of_kind j w) (once e.kind k (eqb-true (number e.kind) (number k) s))
-    go Nothing h s = never (sym s)
+    go : (f : Option Entry) → find_word w ≡ f → found_kind f k ≡ true → extended w ≡ of_kind k w
+    go (Some e) h s = known w e h ∙ ap (λ (j : Kind). of_kind j w) (once e.kind k (eqb-true (number e.kind) (number k) s))
+    go None h s = never (sym s)
 
 -- the count of a long shift
 
@@ -110,17 +108,17 @@ places_range w = go (eqb (w % 16) 0) refl
 
 -- Writing again.
 
-exact_word : (f : Found) (code : ℕ) → found_at f code ≡ true → elim f [ At r ↦ Word r.code | Nothing ↦ NoWord ] ≡ Word code
-exact_word (At r) code t = ap Word (eqb-true r.code code t)
-exact_word Nothing code t = never (sym t)
+exact_word : (f : Option Entry) (code : ℕ) → found_at f code ≡ true → elim f [ Some r ↦ Some r.code | None ↦ None ] ≡ Some code
+exact_word (Some r) code t = ap Some (eqb-true r.code code t)
+exact_word None code t = never (sym t)
 
 long_word :
-    (f : Found) (code n : ℕ) → found_at f code ≡ true →
-    elim f [ At r ↦ Word (r.code + n) | Nothing ↦ NoWord ] ≡ Word (code + n)
-long_word (At r) code n t = ap (λ (m : ℕ). Word (m + n)) (eqb-true r.code code t)
-long_word Nothing code n t = never (sym t)
+    (f : Option Entry) (code n : ℕ) → found_at f code ≡ true →
+    elim f [ Some r ↦ Some (r.code + n) | None ↦ None ] ≡ Some (code + n)
+long_word (Some r) code n t = ap (λ (m : ℕ). Some (m + n)) (eqb-true r.code code t)
+long_word None code n t = never (sym t)
 
-module _ (w : ℕ) (e : Entry) (found : find_word w ≡ At e) where
+module _ (w : ℕ) (e : Entry) (found : find_word w ≡ Some e) where
   covered : covers w e ≡ true
   unfolding find_word
   covered = given_test (covers w) e rows found
@@ -133,7 +131,7 @@ module _ (w : ℕ) (e : Entry) (found : find_word w ≡ At e) where
   unfolding find_word
   cleaned = given_every (covers w) e (λ r. clean r.kind r.code) rows codes_clean found
 
-  kind_again : (k : Kind) → e.kind ≡ k → writing (of_kind k w) ≡ Word w
+  kind_again : (k : Kind) → e.kind ≡ k → writing (of_kind k w) ≡ Some w
   unfolding writing write_extended write_long_shift
   kind_again (Exact x) h =
       let c : w ≡ e.code = eqb-true w e.code (rw (h, covers) at covered) in
@@ -143,19 +141,19 @@ module _ (w : ℕ) (e : Entry) (found : find_word w ≡ At e) where
       let z : e.code % 16 ≡ 0 = eqb-true (e.code % 16) 0 (rw (h, clean) at cleaned) in
       let sum : e.code + places w % 16 ≡ w = omega (arith, (places_range w).2) in
       rw (ne_eqb (places w) 0 (places_range w).0, le-ltb 16 (places w) (places_range w).1)
-      (long_word (find_kind (Long s)) e.code (places w % 16) (rw h at coded) ∙ ap Word sum)
+      (long_word (find_kind (Long s)) e.code (places w % 16) (rw h at coded) ∙ ap Some sum)
 
-pub extended_again : (w : ℕ) → w < 0o200000 → reading w ≡ extended w → writing (extended w) ≡ Word w
+pub extended_again : (w : ℕ) → w < 0o200000 → reading w ≡ extended w → writing (extended w) ≡ Some w
 unfolding writing write_not_built
 extended_again w fits here = go (find_word w) refl
   where
-    go : (f : Found) → find_word w ≡ f → writing (extended w) ≡ Word w
-    go (At e) h = rw (known w e h) (kind_again w e h e.kind refl)
-    go Nothing h = rw (unknown w h, lt-ltb w 0o200000 fits, here, unknown w h)
+    go : (f : Option Entry) → find_word w ≡ f → writing (extended w) ≡ Some w
+    go (Some e) h = rw (known w e h) (kind_again w e h e.kind refl)
+    go None h = rw (unknown w h, lt-ltb w 0o200000 fits, here, unknown w h)
 
 -- Reading again.
 
-module _ (k : Kind) (e : Entry) (found : find_kind k ≡ At e) where
+module _ (k : Kind) (e : Entry) (found : find_kind k ≡ Some e) where
   owned : (n : ℕ) → n < span k → own e n ≡ true
   unfolding find_kind
   owned n l =
@@ -172,26 +170,26 @@ module _ (k : Kind) (e : Entry) (found : find_kind k ≡ At e) where
       let b = both (in_group (e.code + n)) (found_kind (find_word (e.code + n)) e.kind) (owned n l) in
       reads_as (e.code + n) k b.0 (rw (kind_is k e found) at b.1)
 
-pub exact_read : (x : of_extended.Extended) (w : ℕ) → write_extended x ≡ Word w → Reads w (Extended x)
+pub exact_read : (x : of_extended.Extended) (w : ℕ) → write_extended x ≡ Some w → Reads w (Extended x)
 unfolding write_extended
 exact_read x w h = go (find_kind (Exact x)) refl
   where
-    go : (f : Found) → find_kind (Exact x) ≡ f → Reads w (Extended x)
-    go (At e) f =
+    go : (f : Option Entry) → find_kind (Exact x) ≡ f → Reads w (Extended x)
+    go (Some e) f =
         let c : e.code ≡ w = ap word_of (rw (f, write_extended) at h) in
         let r = found_again (Exact x) e f 0 (omega arith) in
         (omega (arith, code_small (Exact x) e f), rw (add-zero, c) at r)
-    go Nothing f = absurd (no_word (rw (f, write_extended) at h))
+    go None f = absurd (no_word (rw (f, write_extended) at h))
 
-pub long_read : (s : LongShift) (n w : ℕ) → write_long_shift s n ≡ Word w → Reads w (Shift s n)
+pub long_read : (s : LongShift) (n w : ℕ) → write_long_shift s n ≡ Some w → Reads w (Shift s n)
 unfolding write_long_shift
 long_read s n w h = go (eqb n 0) (ltb 16 n) (find_kind (Long s)) refl refl refl
   where
-    go : (a b : Bool) (f : Found) → eqb n 0 ≡ a → ltb 16 n ≡ b → find_kind (Long s) ≡ f → Reads w (Shift s n)
+    go : (a b : Bool) (f : Option Entry) → eqb n 0 ≡ a → ltb 16 n ≡ b → find_kind (Long s) ≡ f → Reads w (Shift s n)
     go true b f p q r = absurd (no_word (rw p at h))
     go false true f p q r = absurd (no_word (rw (p, q) at h))
-    go false false Nothing p q r = absurd (no_word (rw (p, q, r, write_long_shift) at h))
-    go false false (At e) p q r =
+    go false false None p q r = absurd (no_word (rw (p, q, r, write_long_shift) at h))
+    go false false (Some e) p q r =
         let c : e.code + n % 16 ≡ w = ap word_of (rw (p, q, r, write_long_shift) at h) in
         let z : e.code % 16 ≡ 0 = eqb-true (e.code % 16) 0 (clean_kind (Long s) e r) in (
           omega (arith, code_small (Long s) e r),
@@ -208,9 +206,9 @@ unbuilt_extended w h = go (find_word w) refl
     built_kind (Exact x) = refl
     built_kind (Long s) = refl
 
-    go : (f : Found) → find_word w ≡ f → extended w ≡ NotBuilt w
-    go (At e) f = never (sym (built_kind e.kind) ∙ (rw (known w e f) at h))
-    go Nothing f = unknown w f
+    go : (f : Option Entry) → find_word w ≡ f → extended w ≡ NotBuilt w
+    go (Some e) f = never (sym (built_kind e.kind) ∙ (rw (known w e f) at h))
+    go None f = unknown w f
 
 pub unbuilt : (w : ℕ) → built (reading w) ≡ false → reading w ≡ NotBuilt w
 unfolding reading memory_reference shift_rotate alter_skip input_output
@@ -223,7 +221,7 @@ unbuilt w h = go (leb 2 (w / 0o4000 % 16)) (bit 15 w) (bit 10 w) refl refl refl
     go false false true p q r = never (rw (p, q, r) at h)
     go false false false p q r = never (rw (p, q, r) at h)
 
-pub not_built_read : (v w : ℕ) → write_not_built v ≡ Word w → Reads w (NotBuilt v)
+pub not_built_read : (v w : ℕ) → write_not_built v ≡ Some w → Reads w (NotBuilt v)
 unfolding write_not_built
 not_built_read v w h = go (ltb v 0o200000) (built (reading v)) refl refl
   where

@@ -1,50 +1,16 @@
--- The search of a table, row by row: what one step of it shows, and what is true of a row that it gives.
---     at_row        a row as the code's table keeps it
---     met           the search gives the row at i where the test passes there
---     passed        and goes on where it fails
---     every_at      a test that every row passes, which antt computes, at the row i
---     given_test    a row that a search gives passes the search's test
---     given_every   and passes a test that every row passes
+-- What is true of a row that the search of the table gives.
+--     given_test    it passes the search's test
+--     given_every   and a test that every row passes, which antt computes
 -- Assumes nothing.
 use mathlib.Core.Path.{◌≡◌, refl, ◌∙◌, sym}
-use mathlib.Core.Bool.{Bool, true, false}
-use mathlib.Core.List.{List, [], ◌∷◌, map}
-use Prim.Native.Nat.{ℕ, zero, suc, ◌+◌, ◌<◌}
-use native.Mathlib.Nat.{le_of_suc-le-suc, not-suc-le-zero}
-use native.Mathlib.Numerals.{add-one}
-use native.Mathlib.Omega.{arith}
+use mathlib.Core.Bool.{Bool, true, false, cond}
+use mathlib.Core.List.{List, [], ◌∷◌}
 use lib.Dec.{T}
-use lib.ListN.{length, get_or, drop, get_or-map}
-use lib.Seq.{drop-cons}
-use Rattle.code.specs.declared.codes.Register.TheVariants.{A}
-use Rattle.code.specs.declared.codes.Data.TheVariants.{One}
-use Rattle.code.specs.declared.codes.Cross.TheVariants.{Xl}
-use Rattle.code.specs.declared.codes.Extended.TheVariants.{Cross}
-use Rattle.code.specs.declared.codes.Kind.TheVariants.{Exact}
+use Rattle.std.specs.Prelude.{Some, find}
 use Rattle.code.specs.declared.codes.Entry.{Entry}
-use Rattle.code.specs.declared.codes.Found.TheVariants.{At}
-use Rattle.code.specs.Kinds.{kept}
-use Rattle.code.specs.Codes.{row, first}
 
--- what stands past a table's end
-abbrev pub none : Entry
-none = row 0 0 (Exact (Cross Xl A One))
-
-abbrev pub entry : List Entry → ℕ → Entry
-entry es i = get_or es i none
-
-pub at_row : (es : List Entry) (i : ℕ) → get_or (map kept es) i (record { 0 = 0; 1 = 0; 2 = 0 }) ≡ kept (entry es i)
-at_row es i = get_or-map kept es i none
-
-module _ (p : Entry → Bool) where
-  step : (e : Entry) (es : List Entry) (b : Bool) → p e ≡ b → first p (e ∷ es) ≡ elim b [ true ↦ At e | false ↦ first p es ]
-  step e es b h = rw (h, first)
-
-  pub met : (es : List Entry) (i : ℕ) → i < length es → p (entry es i) ≡ true → first p (drop i es) ≡ At (entry es i)
-  met es i h t = rw (drop-cons es i none) (step (entry es i) (drop (suc i) es) true t)
-
-  pub passed : (es : List Entry) (i : ℕ) → i < length es → p (entry es i) ≡ false → first p (drop (i + 1) es) ≡ first p (drop i es)
-  passed es i h t = rw (add-one, drop-cons es i none) (sym (step (entry es i) (drop (suc i) es) false t))
+step : (p : Entry → Bool) (e : Entry) (es : List Entry) (b : Bool) → p e ≡ b → find p (e ∷ es) ≡ cond b (Some e) (find p es)
+step p e es b h = rw (h, find)
 
 abbrev pub every : (Entry → Bool) → List Entry → Bool
 every q [] = true
@@ -54,24 +20,19 @@ true_first : (q : Entry → Bool) (e : Entry) (es : List Entry) (b : Bool) → q
 true_first q e es true h t = (h, rw (h, every) at t)
 true_first q e es false h t = absurd (rw (h, every) at t)
 
-pub every_at : (q : Entry → Bool) (es : List Entry) → T (every q es) → (i : ℕ) → i < length es → q (entry es i) ≡ true
-every_at q [] t i h = absurd (not-suc-le-zero h)
-every_at q (e ∷ es) t zero h = (true_first q e es (q e) refl t).0
-every_at q (e ∷ es) t (suc i) h = every_at q es (true_first q e es (q e) refl t).1 i (le_of_suc-le-suc h)
-
 module _ (p : Entry → Bool) (r : Entry) where
-  pub given_test : (es : List Entry) → first p es ≡ At r → p r ≡ true
-  given_test [] g = absurd (let z : ◌≡◌ {A = ℕ} 0 1 = cc in omega arith)
+  pub given_test : (es : List Entry) → find p es ≡ Some r → p r ≡ true
+  given_test [] g = cc
   given_test (e ∷ es) g = go (p e) refl (given_test es)
     where
-      go : (b : Bool) → p e ≡ b → (first p es ≡ At r → p r ≡ true) → p r ≡ true
-      go true h next = let s : At e ≡ At r = sym (step p e es true h) ∙ g in let e≡r : e ≡ r = cc in rw⁻¹ e≡r h
+      go : (b : Bool) → p e ≡ b → (find p es ≡ Some r → p r ≡ true) → p r ≡ true
+      go true h next = let s : Some e ≡ Some r = sym (step p e es true h) ∙ g in let e≡r : e ≡ r = cc in rw⁻¹ e≡r h
       go false h next = next (sym (step p e es false h) ∙ g)
 
-  pub given_every : (q : Entry → Bool) (es : List Entry) → T (every q es) → first p es ≡ At r → q r ≡ true
-  given_every q [] t g = absurd (let z : ◌≡◌ {A = ℕ} 0 1 = cc in omega arith)
+  pub given_every : (q : Entry → Bool) (es : List Entry) → T (every q es) → find p es ≡ Some r → q r ≡ true
+  given_every q [] t g = cc
   given_every q (e ∷ es) t g = go (p e) refl (true_first q e es (q e) refl t) (given_every q es)
     where
-      go : (b : Bool) → p e ≡ b → (q e ≡ true) × T (every q es) → (T (every q es) → first p es ≡ At r → q r ≡ true) → q r ≡ true
-      go true h both next = let s : At e ≡ At r = sym (step p e es true h) ∙ g in let e≡r : e ≡ r = cc in rw⁻¹ e≡r both.0
+      go : (b : Bool) → p e ≡ b → (q e ≡ true) × T (every q es) → (T (every q es) → find p es ≡ Some r → q r ≡ true) → q r ≡ true
+      go true h both next = let s : Some e ≡ Some r = sym (step p e es true h) ∙ g in let e≡r : e ≡ r = cc in rw⁻¹ e≡r both.0
       go false h both next = next both.1 (sym (step p e es false h) ∙ g)

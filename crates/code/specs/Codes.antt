@@ -6,7 +6,8 @@
 --     privileged    105700 to 105711, known to the privilege test and not built
 -- What the words of the other groups mean is in Instructions.
 -- Assumes nothing.
-use Rattle.std.specs.Prelude.{ℕ, ◌/◌, Bool, true, false, cond, List, [], ◌∷◌, eqb, leb}
+use Rattle.std.specs.Prelude.{ℕ, ◌/◌, Bool, false, cond, List, [], ◌∷◌, Option, Some, None, eqb, leb}
+use Rattle.std.specs.List.{find}
 use Rattle.word.specs.declared.long.LongShift.TheVariants.{Asl, Lsl, Rrl, Asr, Lsr, Rrr}
 use Rattle.code.specs.declared.codes.Register.TheVariants.{A, B}
 use Rattle.code.specs.declared.codes.Index.TheVariants.{X, Y}
@@ -23,8 +24,6 @@ use Rattle.code.specs.declared.codes.Extended.TheVariants.{Cross, Transfer, Inde
 use Rattle.code.specs.declared.codes.Kind.{Kind}
 use Rattle.code.specs.declared.codes.Kind.TheVariants.{Exact, Long}
 use Rattle.code.specs.declared.codes.Entry.{Entry}
-use Rattle.code.specs.declared.codes.Found.{Found}
-use Rattle.code.specs.declared.codes.Found.TheVariants.{At, Nothing}
 use Rattle.code.specs.Kinds.{same}
 
 abbrev pub row : ℕ → ℕ → Kind → Entry
@@ -100,18 +99,14 @@ rows =
 abbrev pub covers : ℕ → Entry → Bool
 covers word e = elim e.kind [ Exact _ ↦ eqb word e.code | Long _ ↦ eqb (word / 16) (e.code / 16) ]
 
-abbrev pub first : (Entry → Bool) → List Entry → Found
-first p [] = Nothing
-first p (e ∷ es) = elim (p e) [ true ↦ At e | false ↦ first p es ]
+unfoldable pub find_word : ℕ → Option Entry
+find_word word = find (covers word) rows
 
-unfoldable pub find_word : ℕ → Found
-find_word word = first (covers word) rows
-
-unfoldable pub find_kind : Kind → Found
-find_kind kind = first (λ e. same e.kind kind) rows
+unfoldable pub find_kind : Kind → Option Entry
+find_kind kind = find (λ e. same e.kind kind) rows
 
 unfoldable pub length_of : Extended → ℕ
-length_of extended = elim (find_kind (Exact extended)) [ At e ↦ e.length | Nothing ↦ 0 ]
+length_of extended = elim (find_kind (Exact extended)) [ Some e ↦ e.length | None ↦ 0 ]
 
 abbrev pub privileged : ℕ → Bool
 privileged word = cond (leb 0o105700 word) (leb word 0o105711) false

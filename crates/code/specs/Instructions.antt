@@ -4,7 +4,7 @@
 -- The table of the extended codes is in Codes. What an instruction does is elsewhere.
 -- That the two are inverse is in proofs/Exact.antt.
 -- Assumes nothing.
-use Rattle.std.specs.Prelude.{ℕ, ◌+◌, ◌-◌, ◌*◌, ◌/◌, ◌%◌, Bool, true, false, cond, List, [], ◌∷◌, eqb, ltb, leb, get_or}
+use Rattle.std.specs.Prelude.{ℕ, ◌+◌, ◌-◌, ◌*◌, ◌/◌, ◌%◌, Bool, true, false, cond, List, [], ◌∷◌, Option, Some, None, eqb, ltb, leb, get_or}
 use Rattle.word.specs.Words.{bit}
 use Rattle.word.specs.declared.long.LongShift.{LongShift}
 use Rattle.word.specs.declared.shifts.ShiftCode.{ShiftCode}
@@ -14,7 +14,6 @@ use Rattle.code.specs.declared.codes.Register.TheVariants.{A, B}
 use Rattle.code.specs.declared.codes.Extended as of_extended
 use Rattle.code.specs.declared.codes.Kind.{Kind}
 use Rattle.code.specs.declared.codes.Kind.TheVariants.{Exact, Long}
-use Rattle.code.specs.declared.codes.Found.TheVariants.{At, Nothing}
 use Rattle.code.specs.declared.instructions.Operation.{Operation}
 use Rattle.code.specs.declared.instructions.Operation.TheVariants.{And, Jsb, Xor, Jmp, Ior, Isz, Ada, Adb, Cpa, Cpb, Lda, Ldb, Sta, Stb}
 use Rattle.code.specs.declared.instructions.ShiftRotate as of_shift_rotate
@@ -25,8 +24,6 @@ use Rattle.code.specs.declared.instructions.IoOperation.{IoOperation}
 use Rattle.code.specs.declared.instructions.IoOperation.TheVariants.{Hlt, Flag, Sfc, Sfs, Mia, Lia, Ota, Control}
 use Rattle.code.specs.declared.instructions.Instruction.{Instruction}
 use Rattle.code.specs.declared.instructions.Instruction.TheVariants.{MemoryReference, ShiftRotate, AlterSkip, InputOutput, LongShift as Shift, Extended, NotBuilt}
-use Rattle.code.specs.declared.instructions.Written.{Written}
-use Rattle.code.specs.declared.instructions.Written.TheVariants.{Word, NoWord}
 pub use Rattle.code.specs.Kinds.{registers, register_at}
 use Rattle.code.specs.Codes.{find_word, find_kind}
 
@@ -161,7 +158,7 @@ of_kind (Long s) w = Shift s (places w)
 
 -- "a word that fits no rule here isn't built"
 unfoldable pub extended : ℕ → Instruction
-extended w = elim (find_word w) [ At e ↦ of_kind e.kind w | Nothing ↦ NotBuilt w ]
+extended w = elim (find_word w) [ Some e ↦ of_kind e.kind w | None ↦ NotBuilt w ]
 
 -- Memory reference words have an operation of 2 or more in bits 14 to 11. Of the others, bits 15 and 10 tell
 -- shift/rotate 00, alter/skip 01, extended 10 and I/O 11.
@@ -176,36 +173,36 @@ abbrev pub flag : Bool → ℕ
 flag true = 1
 flag false = 0
 
-unfoldable pub write_memory_reference : Operation → Bool → Bool → ℕ → Written
+unfoldable pub write_memory_reference : Operation → Bool → Bool → ℕ → Option ℕ
 write_memory_reference o indirect current offset =
-    cond (ltb 0o1777 offset) NoWord (Word (flag indirect * 0o100000 + operation_code o + flag current * 0o2000 + offset))
+    cond (ltb 0o1777 offset) None (Some (flag indirect * 0o100000 + operation_code o + flag current * 0o2000 + offset))
 
-unfoldable pub write_shift_rotate : of_shift_rotate.ShiftRotate → Written
+unfoldable pub write_shift_rotate : of_shift_rotate.ShiftRotate → Option ℕ
 write_shift_rotate s =
-    Word
+    Some
     (register_flag s.register * 0o4000 + flag s.enabled1 * 0o1000 + shift_number s.shift1 * 0o100
     + flag s.cle * 0o40 + flag s.enabled2 * 0o20 + flag s.sla * 0o10 + shift_number s.shift2)
 
-unfoldable pub write_alter_skip : of_alter_skip.AlterSkip → Written
+unfoldable pub write_alter_skip : of_alter_skip.AlterSkip → Option ℕ
 write_alter_skip s =
-    Word
+    Some
     (0o2000 + register_flag s.register * 0o4000 + alter_number s.alter * 0o400 + alter_number s.extend * 0o100
     + flag s.sez * 0o40 + flag s.ssa * 0o20 + flag s.sla * 0o10 + flag s.ina * 0o4 + flag s.sza * 0o2
     + flag s.rss)
 
-unfoldable pub write_input_output : IoOperation → Bool → Bool → ℕ → Written
+unfoldable pub write_input_output : IoOperation → Bool → Bool → ℕ → Option ℕ
 write_input_output o bit11 bit9 select =
-    cond (ltb 0o77 select) NoWord
-    (Word (0o102000 + flag bit11 * 0o4000 + flag bit9 * 0o1000 + io_number o * 0o100 + select))
+    cond (ltb 0o77 select) None
+    (Some (0o102000 + flag bit11 * 0o4000 + flag bit9 * 0o1000 + io_number o * 0o100 + select))
 
 -- a count of 1 to 16 in the low four bits
-unfoldable pub write_long_shift : LongShift → ℕ → Written
+unfoldable pub write_long_shift : LongShift → ℕ → Option ℕ
 write_long_shift s n =
-    cond (eqb n 0) NoWord
-    (cond (ltb 16 n) NoWord (elim (find_kind (Long s)) [ At e ↦ Word (e.code + n % 16) | Nothing ↦ NoWord ]))
+    cond (eqb n 0) None
+    (cond (ltb 16 n) None (elim (find_kind (Long s)) [ Some e ↦ Some (e.code + n % 16) | None ↦ None ]))
 
-unfoldable pub write_extended : of_extended.Extended → Written
-write_extended e = elim (find_kind (Exact e)) [ At r ↦ Word r.code | Nothing ↦ NoWord ]
+unfoldable pub write_extended : of_extended.Extended → Option ℕ
+write_extended e = elim (find_kind (Exact e)) [ Some r ↦ Some r.code | None ↦ None ]
 
 abbrev pub built : Instruction → Bool
 built (MemoryReference o i c n) = true
@@ -217,11 +214,11 @@ built (Extended e) = true
 built (NotBuilt w) = false
 
 -- a word that is not built, and is a word
-unfoldable pub write_not_built : ℕ → Written
-write_not_built w = cond (ltb w 0o200000) (cond (built (reading w)) NoWord (Word w)) NoWord
+unfoldable pub write_not_built : ℕ → Option ℕ
+write_not_built w = cond (ltb w 0o200000) (cond (built (reading w)) None (Some w)) None
 
--- "no word reads as this instruction" is `NoWord`
-unfoldable pub writing : Instruction → Written
+-- "no word reads as this instruction" is `None`
+unfoldable pub writing : Instruction → Option ℕ
 writing (MemoryReference o indirect current offset) = write_memory_reference o indirect current offset
 writing (ShiftRotate s) = write_shift_rotate s
 writing (AlterSkip s) = write_alter_skip s
@@ -231,10 +228,10 @@ writing (Extended e) = write_extended e
 writing (NotBuilt w) = write_not_built w
 
 -- 01, "What a step replies": 9, with word 0, where there is none
-abbrev pub reply : Written → ℕ
-reply (Word w) = 0
-reply NoWord = 9
+abbrev pub reply : Option ℕ → ℕ
+reply (Some w) = 0
+reply None = 9
 
-abbrev pub word_of : Written → ℕ
-word_of (Word w) = w
-word_of NoWord = 0
+abbrev pub word_of : Option ℕ → ℕ
+word_of (Some w) = w
+word_of None = 0

@@ -8,7 +8,7 @@
 --     same       whether two kinds are the same, told by their numbers
 -- That no two kinds have the same number, and that each kind is the one at its number, is in proofs/Table.antt. The table is in
 -- Codes. Assumes nothing.
-use Rattle.std.specs.Prelude.{ℕ, ◌+◌, ◌/◌, ◌%◌, Bool, cond, List, [], ◌∷◌, eqb, get_or}
+use Rattle.std.specs.Prelude.{ℕ, ◌+◌, Bool, List, [], ◌∷◌, eqb, get_or}
 use Rattle.word.specs.declared.long.LongShift.{LongShift}
 use Rattle.word.specs.declared.long.LongShift.TheVariants.{Asl, Lsl, Rrl, Asr, Lsr, Rrr}
 use Rattle.code.specs.declared.codes.Register.{Register}
@@ -35,8 +35,6 @@ use Rattle.code.specs.declared.codes.Extended.{Extended}
 use Rattle.code.specs.declared.codes.Extended.TheVariants.{Cross, Transfer, Indexing, Arithmetic, Bytes, Bits, Words}
 use Rattle.code.specs.declared.codes.Kind.{Kind}
 use Rattle.code.specs.declared.codes.Kind.TheVariants.{Exact, Long}
-use Rattle.code.specs.declared.codes.Entry.{Entry}
-use Rattle.code.specs.declared.codes.Row.{Row}
 
 -- From a kind to its number.
 
@@ -120,64 +118,6 @@ registers = A ∷ B ∷ []
 
 abbrev pub register_at : ℕ → Register
 register_at n = get_or registers n B
-
-abbrev pub index_at : ℕ → Index
-index_at n = get_or (X ∷ []) n Y
-
-abbrev pub data_at : ℕ → Data
-data_at n = get_or (One ∷ []) n Two
-
-abbrev pub cross_at : ℕ → enum_cross.Cross
-cross_at n = get_or (Xl ∷ Xs ∷ []) n Xc
-
-abbrev pub transfer_at : ℕ → enum_transfer.Transfer
-transfer_at n = get_or (Sax ∷ Cax ∷ Lax ∷ Cxa ∷ []) n Xax
-
-abbrev pub indexing_at : ℕ → enum_indexing.Indexing
-indexing_at n = get_or (Stx ∷ Ldx ∷ Adx ∷ Isx ∷ []) n Dsx
-
-abbrev pub arithmetic_at : ℕ → enum_arithmetic.Arithmetic
-arithmetic_at n = get_or (Mpy ∷ Div ∷ Dld ∷ []) n Dst
-
-abbrev pub bytes_at : ℕ → enum_bytes.Bytes
-bytes_at n = get_or (Lbt ∷ Sbt ∷ Mbt ∷ []) n Cbt
-
-abbrev pub bits_at : ℕ → enum_bits.Bits
-bits_at n = get_or (Sbs ∷ Cbs ∷ []) n Tbs
-
-abbrev pub words_at : ℕ → enum_words.Words
-words_at n = get_or (Cmw ∷ []) n Mvw
-
-abbrev pub long_at : ℕ → LongShift
-long_at n = get_or (Asl ∷ Lsl ∷ Rrl ∷ Asr ∷ Lsr ∷ []) n Rrr
-
--- of a group, an operation, a register and an index register or map
-abbrev pub kind_of : ℕ → ℕ → ℕ → ℕ → Kind
-kind_of group operation register index =
-    get_or
-    (Exact (Cross (cross_at operation) (register_at register) (data_at index))
-    ∷ Exact (Transfer (transfer_at operation) (register_at register) (index_at index))
-    ∷ Exact (Indexing (indexing_at operation) (index_at index))
-    ∷ Exact (Arithmetic (arithmetic_at operation))
-    ∷ Exact (Bytes (bytes_at operation))
-    ∷ Exact (Bits (bits_at operation))
-    ∷ Exact (Words (words_at operation))
-    ∷ []) group (Long (long_at operation))
-
-abbrev pub kind_at : ℕ → Kind
-kind_at n = kind_of (n / 64) (n / 4 % 16) (n / 2 % 2) (n % 2)
-
--- The table of src/.
-
-abbrev pub kept : Entry → Row
-kept e = record { 0 = e.code; 1 = e.length; 2 = number e.kind }
-
--- the group of the long shifts
-abbrev pub is_long : ℕ → Bool
-is_long n = eqb (n / 64) 7
-
-abbrev pub holds : ℕ → ℕ → ℕ → Bool
-holds code n word = cond (is_long n) (eqb (word / 16) (code / 16)) (eqb word code)
 
 abbrev pub same : Kind → Kind → Bool
 same j k = eqb (number j) (number k)

@@ -9,11 +9,11 @@ use crate::choices::{
     alter_at, alter_number, io_at, io_number, operation_at, operation_code, register_at,
     register_flag, shift_at, shift_number,
 };
-use crate::codes::{Extended, Found, Kind, Register};
+use crate::codes::{Extended, Kind, Register, find_kind, find_word};
 use word::long::LongShift;
 use word::shifts::ShiftCode;
 
-#[derive(Clone, Copy)]
+#[derive(Clone, Copy, Debug, PartialEq, Eq)]
 pub enum Operation {
     And,
     Jsb,
@@ -32,7 +32,7 @@ pub enum Operation {
 }
 
 // The first shift, CLE, SLA and the second shift, in this order.
-#[derive(Clone, Copy)]
+#[derive(Clone, Copy, Debug, PartialEq, Eq)]
 pub struct ShiftRotate {
     pub register: Register,
     pub enabled1: bool,
@@ -44,7 +44,7 @@ pub struct ShiftRotate {
 }
 
 // What is done to A or B (CLA, CMA, CCA) or to E (CLE, CME, CCE).
-#[derive(Clone, Copy)]
+#[derive(Clone, Copy, Debug, PartialEq, Eq)]
 pub enum Alter {
     Keep,
     Clear,
@@ -52,7 +52,7 @@ pub enum Alter {
     Ones,
 }
 
-#[derive(Clone, Copy)]
+#[derive(Clone, Copy, Debug, PartialEq, Eq)]
 pub struct AlterSkip {
     pub register: Register,
     pub alter: Alter,
@@ -66,7 +66,7 @@ pub struct AlterSkip {
 }
 
 // `Flag` is STF, or CLF with bit 9; `Control` is STC, or CLC with bit 11.
-#[derive(Clone, Copy)]
+#[derive(Clone, Copy, Debug, PartialEq, Eq)]
 pub enum IoOperation {
     Hlt,
     Flag,
@@ -78,7 +78,7 @@ pub enum IoOperation {
     Control,
 }
 
-#[derive(Clone, Copy)]
+#[derive(Clone, Copy, Debug, PartialEq, Eq)]
 pub enum Instruction {
     MemoryReference {
         operation: Operation,
@@ -102,15 +102,9 @@ pub enum Instruction {
     NotBuilt(u16),
 }
 
-// The word of an instruction, or reply 9.
-#[derive(Clone, Copy)]
-pub enum Written {
-    Word(u16),
-    NoWord,
-}
-
 // Reading, field by field.
 
+#[tactic(auto, unfolding(crate::specs::Instructions::memory_reference))]
 fn read_memory_reference(word: u16) -> Instruction
     ensures { result ≡ memory_reference word }
 {
@@ -140,6 +134,7 @@ pub fn shift_rotate_of(word: u16) -> ShiftRotate
     }
 }
 
+#[tactic(auto, unfolding(crate::specs::Instructions::shift_rotate))]
 fn read_shift_rotate(word: u16) -> Instruction
     ensures { result ≡ shift_rotate word }
 {
@@ -166,12 +161,14 @@ pub fn alter_skip_of(word: u16) -> AlterSkip
     }
 }
 
+#[tactic(auto, unfolding(crate::specs::Instructions::alter_skip))]
 fn read_alter_skip(word: u16) -> Instruction
     ensures { result ≡ alter_skip word }
 {
     Instruction::AlterSkip(alter_skip_of(word))
 }
 
+#[tactic(auto, unfolding(crate::specs::Instructions::input_output))]
 fn read_input_output(word: u16) -> Instruction
     ensures { result ≡ input_output word }
 {
@@ -190,24 +187,23 @@ fn places_of(word: u16) -> u16
     if word % 16 == 0 { 16 } else { word % 16 }
 }
 
+#[tactic(auto, unfolding(crate::specs::Instructions::extended))]
 fn read_extended(word: u16) -> Instruction
     ensures { result ≡ extended word }
 {
-    match crate::codes::find_word(word) {
-        Found::At(entry) => {
-            let kind = entry.kind;
-            match kind {
-                Kind::Exact(code) => Instruction::Extended(code),
-                Kind::Long(shift) => Instruction::LongShift {
-                    kind: shift,
-                    places: places_of(word),
-                },
-            }
-        }
-        Found::Nothing => Instruction::NotBuilt(word),
+    match find_word(word) {
+        Some(row) => match row.kind {
+            Kind::Exact(code) => Instruction::Extended(code),
+            Kind::Long(kind) => Instruction::LongShift {
+                kind,
+                places: places_of(word),
+            },
+        },
+        None => Instruction::NotBuilt(word),
     }
 }
 
+#[tactic(auto, unfolding(crate::specs::Instructions::reading))]
 pub fn read_instruction(word: u16) -> Instruction
     ensures { result ≡ reading word }
 {
@@ -235,18 +231,19 @@ fn flag_of(b: bool) -> u16
     if b { 1 } else { 0 }
 }
 
+#[tactic(auto, unfolding(crate::specs::Instructions::write_memory_reference))]
 fn write_memory_reference(
     operation: Operation,
     indirect: bool,
     current: bool,
     offset: u16,
-) -> Written
+) -> Option<u16>
     ensures { result ≡ write_memory_reference operation indirect current offset }
 {
     if 0o1777 < offset {
-        return Written::NoWord;
+        return None;
     }
-    Written::Word(
+    Some(
         flag_of(indirect) * 0o100000
             + operation_code(operation)
             + flag_of(current) * 0o2000
@@ -254,13 +251,14 @@ fn write_memory_reference(
     )
 }
 
-fn write_shift_rotate(s: ShiftRotate) -> Written
+#[tactic(auto, unfolding(crate::specs::Instructions::write_shift_rotate))]
+fn write_shift_rotate(s: ShiftRotate) -> Option<u16>
     ensures { result ≡ write_shift_rotate s }
 {
     let register = s.register;
     let shift1 = s.shift1;
     let shift2 = s.shift2;
-    Written::Word(
+    Some(
         register_flag(register) * 0o4000
             + flag_of(s.enabled1) * 0o1000
             + shift_number(shift1) * 0o100
@@ -271,13 +269,14 @@ fn write_shift_rotate(s: ShiftRotate) -> Written
     )
 }
 
-fn write_alter_skip(s: AlterSkip) -> Written
+#[tactic(auto, unfolding(crate::specs::Instructions::write_alter_skip))]
+fn write_alter_skip(s: AlterSkip) -> Option<u16>
     ensures { result ≡ write_alter_skip s }
 {
     let register = s.register;
     let alter = s.alter;
     let extend = s.extend;
-    Written::Word(
+    Some(
         0o2000
             + register_flag(register) * 0o4000
             + alter_number(alter) * 0o400
@@ -291,13 +290,14 @@ fn write_alter_skip(s: AlterSkip) -> Written
     )
 }
 
-fn write_input_output(operation: IoOperation, bit11: bool, bit9: bool, select: u16) -> Written
+#[tactic(auto, unfolding(crate::specs::Instructions::write_input_output))]
+fn write_input_output(operation: IoOperation, bit11: bool, bit9: bool, select: u16) -> Option<u16>
     ensures { result ≡ write_input_output operation bit11 bit9 select }
 {
     if 0o77 < select {
-        return Written::NoWord;
+        return None;
     }
-    Written::Word(
+    Some(
         0o102000
             + flag_of(bit11) * 0o4000
             + flag_of(bit9) * 0o1000
@@ -306,55 +306,45 @@ fn write_input_output(operation: IoOperation, bit11: bool, bit9: bool, select: u
     )
 }
 
-#[tactic(auto, unfolding(crate::specs::Instructions::write_long_shift))]
-fn write_long_shift(shift: LongShift, places: u16) -> Written
+#[tactic(auto, using(crate::proofs::Table::code_small), unfolding(crate::specs::Instructions::write_long_shift))]
+fn write_long_shift(shift: LongShift, places: u16) -> Option<u16>
     ensures { result ≡ write_long_shift shift places }
 {
     if places == 0 {
-        return Written::NoWord;
+        return None;
     }
     if 16 < places {
-        return Written::NoWord;
+        return None;
     }
-    match crate::codes::find_kind(Kind::Long(shift)) {
-        Found::At(entry) => Written::Word(entry.code + places % 16),
-        Found::Nothing => Written::NoWord,
-    }
+    let row = find_kind(Kind::Long(shift))?;
+    Some(row.code + places % 16)
 }
 
-fn write_extended(code: Extended) -> Written
+#[tactic(auto, unfolding(crate::specs::Instructions::write_extended))]
+fn write_extended(code: Extended) -> Option<u16>
     ensures { result ≡ write_extended code }
 {
-    match crate::codes::find_kind(Kind::Exact(code)) {
-        Found::At(entry) => Written::Word(entry.code),
-        Found::Nothing => Written::NoWord,
-    }
+    find_kind(Kind::Exact(code)).map(|row| row.code)
 }
 
 fn is_built(instruction: Instruction) -> bool
     ensures { result ≡ built instruction }
 {
-    match instruction {
-        Instruction::MemoryReference { .. } => true,
-        Instruction::ShiftRotate(_) => true,
-        Instruction::AlterSkip(_) => true,
-        Instruction::InputOutput { .. } => true,
-        Instruction::LongShift { .. } => true,
-        Instruction::Extended(_) => true,
-        Instruction::NotBuilt(_) => false,
-    }
+    !matches!(instruction, Instruction::NotBuilt(_))
 }
 
-fn write_not_built(word: u16) -> Written
+#[tactic(auto, unfolding(crate::specs::Instructions::write_not_built))]
+fn write_not_built(word: u16) -> Option<u16>
     ensures { result ≡ write_not_built word }
 {
     if is_built(read_instruction(word)) {
-        return Written::NoWord;
+        return None;
     }
-    Written::Word(word)
+    Some(word)
 }
 
-pub fn write_instruction(instruction: Instruction) -> Written
+#[tactic(auto, unfolding(crate::specs::Instructions::writing))]
+pub fn write_instruction(instruction: Instruction) -> Option<u16>
     ensures { result ≡ writing instruction }
 {
     match instruction {

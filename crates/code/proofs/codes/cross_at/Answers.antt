@@ -1,8 +1,0 @@
--- `codes::cross_at` meets its contract: the last arm is past the keys. Assumes nothing.
-use mathlib.Core.Path.{refl}
-use Rattle.code.specs.Kinds.{cross_at}
-use Rattle.code.proofs.Picks.{rest}
-use Rattle.code.proofs.codes.cross_at.Goals as goal
-
-pub returns-in_default : goal.returns-in_default
-returns-in_default c = rest cross_at 2 _ (λ _. refl) c.in_default.in_default-own.rest

@@ -1,8 +1,0 @@
--- `codes::long_at` meets its contract: the last arm is past the keys. Assumes nothing.
-use mathlib.Core.Path.{refl}
-use Rattle.code.specs.Kinds.{long_at}
-use Rattle.code.proofs.Picks.{rest}
-use Rattle.code.proofs.codes.long_at.Goals as goal
-
-pub returns-in_default : goal.returns-in_default
-returns-in_default c = rest long_at 5 _ (λ _. refl) c.in_default.in_default-own.rest
