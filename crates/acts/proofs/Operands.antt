@@ -4,6 +4,8 @@
 --     direct                        an address word with bit 15 clear is the address
 --     Leads, by_chain, by_itself    where an address word leads: by a chain, or it is the address
 --     settled_given                 what an instruction gives has the answer that its outcome has
+--     by_question                   what leaves a function by `?`
+--     finishing to violating        how a program ends that has no access left
 --     stopping                      trouble stops an instruction, and leaves the memory
 --     saved                         a store, by its place
 --     ends_last                     what follows a last store may come before it, where the store does not see it
@@ -25,7 +27,10 @@ use Rattle.maps.specs.declared.pages.Map.{Map}
 use Rattle.maps.specs.declared.pages.Purpose.{Purpose}
 use Rattle.maps.specs.declared.pages.Place.{Place}
 use Rattle.acts.specs.Record.{with_a, with_b}
-use Rattle.acts.specs.Acts.{Act, fin, load, save, follow, Outcome, done, violated, refused, bad_call, on_place, exec, answer, left, stopped, given, settled, Ends, Performs, troubled, Gives}
+use Rattle.std.specs.Result.{IsErrAnd}
+use Rattle.std.proofs.lemmas.Result.{err_from_is_err_and}
+use Rattle.acts.specs.declared.replies.Refusal.{Refusal}
+use Rattle.acts.specs.Acts.{Act, fin, stop, violate, load, save, follow, Outcome, done, violated, refused, bad_call, on_place, exec, answer, left, stopped, given, settled, Ends, Performs, troubled, Gives}
 use Rattle.acts.specs.declared.replies.Stop.{Stop}
 use Rattle.acts.specs.declared.record.Registers.{Registers}
 use Rattle.maps.specs.declared.troubles.Trouble.{Trouble}
@@ -52,6 +57,24 @@ settled_given r bad_call = refl
 
 pub stopping : {m : List ℕ} (t : Trouble) {s : Result Registers Stop} → s ≡ Err (stopped t) → Ends m (troubled t) s m
 stopping {m = m} t e = record { outcome = e ∙ stops t; memory = stays m t }
+
+-- what leaves a function by `?`
+pub by_question : (s : Result Registers Stop) (t : Trouble) → IsErrAnd s (λ x. x ≡ stopped t) → s ≡ Err (stopped t)
+by_question s t h = let p = err_from_is_err_and s h in p.1 ∙ ap Err p.2
+
+-- how a program ends that has no access left
+module _ (pages : List ℕ) (r : Registers) (m : List ℕ) where
+  pub finishing : (f : Registers → Registers) {s : Result Registers Stop} → s ≡ Ok (f r) → Performs pages (fin f) r m s m
+  unfolding exec
+  finishing f e = record { outcome = e; memory = refl }
+
+  pub refusing : (refusal : Refusal) {s : Result Registers Stop} → s ≡ Err (Stop.Refused refusal) → Performs pages (stop refusal) r m s m
+  unfolding exec
+  refusing refusal e = record { outcome = e; memory = refl }
+
+  pub violating : {s : Result Registers Stop} → s ≡ Err Stop.Violation → Performs pages violate r m s m
+  unfolding exec
+  violating e = record { outcome = e; memory = refl }
 
 -- what the two reading functions of `maps` promise
 module _ {pages : List ℕ} {r : Registers} {m : List ℕ} {g : Result ℕ Trouble} where

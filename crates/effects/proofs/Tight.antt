@@ -35,8 +35,8 @@ use Rattle.effects.proofs.group.input_output.Kinds as input_output
 use Rattle.effects.proofs.group.input_output.Reads as input_output_reads
 use Rattle.effects.proofs.ways.set_flags.Kinds as set_flags
 use Rattle.effects.proofs.ways.set_flags.Reads as set_flags_reads
-use Rattle.effects.proofs.ways.apply.Kinds as apply
-use Rattle.effects.proofs.ways.apply.Reads as apply_reads
+use Rattle.effects.proofs.ways.Taking.apply.Kinds as apply
+use Rattle.effects.proofs.ways.Taking.apply.Reads as apply_reads
 use Rattle.effects.proofs.ways.take.Kinds as take
 use Rattle.effects.proofs.ways.take.Reads as take_reads
 use Rattle.effects.proofs.ways.step_and_skip.Kinds as step_and_skip
@@ -45,8 +45,10 @@ use Rattle.effects.proofs.ways.load_double.Kinds as load_double
 use Rattle.effects.proofs.ways.load_double.Reads as load_double_reads
 use Rattle.effects.proofs.ways.store_double.Kinds as store_double
 use Rattle.effects.proofs.ways.store_double.Reads as store_double_reads
-use Rattle.effects.proofs.ways.value_of.Kinds as value_of_lem
-use Rattle.effects.proofs.ways.value_of.Reads as value_of_reads
+use Rattle.effects.proofs.ways.Source.value.Kinds as value_kinds
+use Rattle.effects.proofs.ways.Source.value.Reads as value_reads
+use Rattle.effects.proofs.ways.Addressing.address.Kinds as address_kinds
+use Rattle.effects.proofs.ways.Addressing.address.Reads as address_reads
 use Rattle.effects.proofs.ways.at_address.Kinds as at_address
 use Rattle.effects.proofs.ways.at_address.Reads as at_address_reads
 
@@ -110,8 +112,11 @@ load_double_tight κs a x y s t p q = (ends_tight p q).0
 pub store_double_tight : OneMemory 2 store_double.ps store_double.r store_double_reads.Post (λ κs s. s.1.1.1.1.0.now)
 store_double_tight κs a x y s t p q = ends_tight p q
 
-pub value_of_tight : OneResult 0 value_of_lem.ps value_of_lem.r value_of_reads.Post
-value_of_tight κs a x y s t p q = p ∙ sym q
+pub value_tight : OneResult 0 value_kinds.ps value_kinds.r value_reads.Post
+value_tight κs a x y s t p q = p ∙ sym q
+
+pub address_tight : OneResult 0 address_kinds.ps address_kinds.r address_reads.Post
+address_tight κs a x y s t p q = p ∙ sym q
 
 pub at_address_tight : OneMemory 2 at_address.ps at_address.r at_address_reads.Post (λ κs s. s.1.1.1.1.1.0.now)
 at_address_tight κs a x y s t p q = ends_tight p q

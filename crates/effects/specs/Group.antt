@@ -6,7 +6,7 @@
 --     picked, panel_act, is_halt, io_act                            I/O
 --     PerformsAlone                                              what is promised of such a program
 -- What is done to a word is in the crate `word`. Assumes nothing.
-use Rattle.std.specs.Prelude.{ℕ, ◌+◌, ◌*◌, ◌%◌, Bool, true, false, cond, not, ◌&&◌, ◌||◌, List, eqb}
+use Rattle.std.specs.Prelude.{ℕ, ◌+◌, ◌*◌, ◌%◌, Bool, true, false, cond, not, ◌&&◌, ◌||◌, List, eqb, Result}
 use Rattle.word.specs.Words.{bit, weight, complemented}
 use Rattle.word.specs.Sums.{incremented}
 use Rattle.word.specs.Shifts.{shifted, unshifted}
@@ -27,7 +27,7 @@ use Rattle.code.specs.declared.instructions.AlterSkip.{AlterSkip}
 use Rattle.code.specs.declared.instructions.IoOperation.{IoOperation}
 use Rattle.code.specs.declared.instructions.IoOperation.TheVariants.{Hlt, Flag, Sfc, Sfs, Mia, Lia, Ota, Control}
 use Rattle.acts.specs.declared.replies.Refusal.{Refusal}
-use Rattle.acts.specs.declared.replies.Stepped.{Stepped}
+use Rattle.acts.specs.declared.replies.Stop.{Stop}
 use Rattle.acts.specs.Acts.{Act, fin, stop, violate, Performs}
 use Rattle.maps.specs.Pages.{protecting}
 use Rattle.code.specs.declared.instructions.Alter.{Alter}
@@ -133,5 +133,5 @@ io_act io bit11 bit9 select r =
     (cond (eqb select 1) (panel_act io bit11 bit9) (stop Refusal.InputOutput))
 
 -- what a function that carries out a program of no accesses promises: the same whatever page registers and memory hold
-abbrev pub PerformsAlone : Act → Registers → Stepped → Type 0
+abbrev pub PerformsAlone : Act → Registers → Result Registers Stop → Type 0
 PerformsAlone act r s = (pages m : List ℕ) → Performs pages act r m s m

@@ -1,9 +1,7 @@
 -- `stores::put_last` meets its contract: by the place that the store reached. Assumes nothing.
-use Rattle.std.proofs.Common.{refl, ◌∙◌, ap}
-use Rattle.std.specs.Prelude.{Err}
-use Rattle.std.proofs.lemmas.Result.{err_from_is_err_and}
+use Rattle.std.proofs.Common.{refl}
 use Rattle.acts.specs.Acts.{exec}
-use Rattle.acts.proofs.Operands.{stopping}
+use Rattle.acts.proofs.Operands.{stopping, by_question}
 use Rattle.acts.proofs.stores.put_last.Goals as goal
 
 pub returns-in-A : goal.returns-in-A
@@ -21,6 +19,5 @@ returns-in-Memory c = rw (c.store_word.ensures.memory, ← c.store_word.ensures.
 pub returns-in_err-store_word : goal.returns-in_err-store_word
 unfolding exec
 returns-in_err-store_word c =
-    let p = err_from_is_err_and c.from_residual.result c.from_residual.ensures.1 in
     rw (c.store_word.ensures.memory, ← c.store_word.ensures.outcome, c.in_err-store_word.was)
-    (stopping c.in_err-store_word.field-0.0 (p.1 ∙ ap Err p.2))
+    (stopping c.in_err-store_word.field-0.0 (by_question _ _ c.from_residual.ensures.1))

@@ -1,5 +1,5 @@
 -- `group::input_output` meets its contract: by what its calls ensure. Assumes nothing.
-use mathlib.Core.Path.{refl}
+use Rattle.std.proofs.Common.{refl}
 use borrow.Author.Tests.{ne_eqb}
 use Rattle.acts.specs.Acts.{exec}
 use Rattle.effects.specs.Group.{io_act}
@@ -7,7 +7,7 @@ use Rattle.effects.proofs.group.input_output.Goals as goal
 
 pub returns-then-is_protecting-is_halt : goal.returns-then-is_protecting-is_halt
 unfolding exec io_act
-returns-then-is_protecting-is_halt c = rw (← c.is_protecting.ensures, ← c.is_halt.ensures, c.if-is_protecting-is_halt.true, c.violate.ensures) (λ pages m. record { outcome = refl; memory = refl })
+returns-then-is_protecting-is_halt c = rw (← c.is_protecting.ensures, ← c.is_halt.ensures, c.if-is_protecting-is_halt.true) (λ pages m. record { outcome = refl; memory = refl })
 
 pub returns-then-select-eq1 : goal.returns-then-select-eq1
 unfolding exec io_act
@@ -15,4 +15,4 @@ returns-then-select-eq1 c = rw (← c.is_protecting.ensures, ← c.is_halt.ensur
 
 pub returns : goal.returns
 unfolding exec io_act
-returns c = rw (← c.is_protecting.ensures, ← c.is_halt.ensures, c.if-is_protecting-is_halt.false, ne_eqb c.args.select 1 c.if-select-eq1.false, c.refuse.ensures) (λ pages m. record { outcome = refl; memory = refl })
+returns c = rw (← c.is_protecting.ensures, ← c.is_halt.ensures, c.if-is_protecting-is_halt.false, ne_eqb c.args.select 1 c.if-select-eq1.false) (λ pages m. record { outcome = refl; memory = refl })

@@ -1,5 +1,0 @@
--- `group::copy_to_index` meets its contract: by what its calls ensure. Assumes nothing.
-use Rattle.effects.proofs.group.copy_to_index.Goals as goal
-
-pub returns : goal.returns
-returns c = rw (c.go_ahead.ensures, c.set_index.ensures, c.register.ensures)
