@@ -9,6 +9,7 @@
 --     Tight       each promise fixes its result
 pub mod Tests
 pub mod Weights
+pub mod Halves
 pub mod Carries
 pub mod Signed
 pub mod Quotients
