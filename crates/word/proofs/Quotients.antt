@@ -5,10 +5,10 @@
 --     Divides, divided_value, multiplied_value               the answers, read as values
 -- Not here: the signed reading (`Signed`); both ends of the range and 01's cases, computed (`Cases`). The definitions are in
 -- specs/ (`Products`). Assumes nothing.
-use Rattle.std.proofs.Common.{◌≡◌, ℕ, zero, suc, ◌+◌, ◌-◌, ◌*◌, ◌/◌, ◌%◌, ◌^◌, ◌<◌, ◌≤◌, Bool, true, false, cond, not, ◌&&◌, eqb, ◌⊎◌, ℤ, pos, negsuc, ◌+ℤ◌, ◌*ℤ◌, neg_ℤ, nat_abs, sym, refl, ap, ◌∙◌, inl, inr, mod-lt, zero-lt-suc, mul-le-mul, div-add-mod', zero-mul, div-le_self, arith, w16, w32, SFits, Some, None}
+use Rattle.std.proofs.Common.{◌≡◌, ℕ, zero, suc, ◌-◌, ◌/◌, ◌%◌, ◌^◌, ◌<◌, ◌≤◌, Bool, true, false, cond, not, ◌&&◌, eqb, ◌⊎◌, ℤ, pos, negsuc, ◌+ℤ◌, ◌*ℤ◌, neg_ℤ, nat_abs, refl, ap, ◌∙◌, inl, inr, zero-lt-suc, div-add-mod', div-le_self, arith, w16, w32, SFits, Some, None}
+use Rattle.std.proofs.lemmas.Int.{quot-rem, rem_below, fits_signed_mul, fits_signed_from_abs}
 use native.Mathlib.Nat.{div-lt_self}
 use borrow.Author.Tests.{eqb-false}
-use lib.IntN.{neg_ℤ-+ℤ}
 use lib.Signed.{mag, non_neg, quot_z, rem_z, nat_abs-le}
 use mir.Syntax.{Width}
 use mir.Val.{hbits}
@@ -19,28 +19,13 @@ use Rattle.word.specs.Products.{multiplied, quotient_of, divided}
 use Rattle.word.specs.declared.products.Quotient.{Quotient}
 use Rattle.word.proofs.Signed.{of_value, one_word}
 
+-- quotient times divisor plus remainder is the dividend
+pub again : (z k : ℤ) → quot_z z k *ℤ k +ℤ rem_z z k ≡ z
+again z k = quot-rem z k
+
 negated_size : (n : ℕ) → nat_abs (neg_ℤ (pos n)) ≡ n
 negated_size zero = refl
 negated_size (suc n) = refl
-
-negated_sum : (m n : ℕ) → neg_ℤ (pos m) +ℤ neg_ℤ (pos n) ≡ neg_ℤ (pos (m + n))
-negated_sum m n = sym (neg_ℤ-+ℤ (pos m) (pos n))
-
-negated_product : (q b : ℕ) → neg_ℤ (pos q) *ℤ pos b ≡ neg_ℤ (pos (q * b))
-negated_product zero b = rw zero-mul
-negated_product (suc q) b = refl
-
-twice_negated_product : (q b : ℕ) → neg_ℤ (pos q) *ℤ negsuc b ≡ pos (q * suc b)
-twice_negated_product zero b = rw zero-mul
-twice_negated_product (suc q) b = refl
-
--- quotient times divisor plus remainder is the dividend
-pub again : (z k : ℤ) → quot_z z k *ℤ k +ℤ rem_z z k ≡ z
-again (pos a) (pos b) = ap pos (div-add-mod' a b)
-again (pos a) (negsuc b) = rw (twice_negated_product (a / suc b) b) (ap pos (div-add-mod' a (suc b)))
-again (negsuc a) (pos b) =
-    rw (negated_product (suc a / b) b, negated_sum (suc a / b * b) (suc a % b), div-add-mod' (suc a) b)
-again (negsuc a) (negsuc b) = rw (negated_sum (suc a / suc b * suc b) (suc a % suc b), div-add-mod' (suc a) (suc b))
 
 -- the remainder has the dividend's sign, or is 0
 pub remainder_sign : (z k : ℤ) → (rem_z z k ≡ pos 0) ⊎ (non_neg (rem_z z k) ≡ non_neg z)
@@ -51,13 +36,9 @@ remainder_sign (negsuc a) k = by (suc a % nat_abs k)
     by zero = inl refl
     by (suc r) = inr refl
 
-remainder_is : (z k : ℤ) → nat_abs (rem_z z k) ≡ nat_abs z % nat_abs k
-remainder_is (pos a) k = refl
-remainder_is (negsuc a) k = negated_size (suc a % nat_abs k)
-
 -- and is smaller than the divisor
 pub remainder_size : (z k : ℤ) → (k ≡ pos 0 → ⊥) → nat_abs (rem_z z k) < nat_abs k
-remainder_size z k h = rw (remainder_is z k) (mod-lt (nat_abs z) (some k h))
+remainder_size z k h = rem_below z k (some k h)
   where
     some : (k : ℤ) → (k ≡ pos 0 → ⊥) → 0 < nat_abs k
     some (pos zero) h = absurd (h refl)
@@ -72,19 +53,8 @@ toward_zero (negsuc a) (negsuc b) = refl
 
 -- ---- what fits
 
-below_size : (z : ℤ) → mag z ≤ nat_abs z
-below_size (pos n) = omega arith
-below_size (negsuc n) = omega arith
-
-product_size : (x y : ℤ) → nat_abs (x *ℤ y) ≡ nat_abs x * nat_abs y
-product_size (pos a) (pos b) = refl
-product_size (pos a) (negsuc b) = negated_size (a * suc b)
-product_size (negsuc a) (pos b) = negated_size (suc a * b)
-product_size (negsuc a) (negsuc b) = refl
-
 pub product_fits : (x y : ℤ) → SFits w16 x → SFits w16 y → SFits w32 (x *ℤ y)
-product_fits x y h k =
-    record { sfits = omega (arith, below_size (x *ℤ y), product_size x y, mul-le-mul (nat_abs-le x h.sfits) (nat_abs-le y k.sfits)) }
+product_fits x y h k = fits_signed_mul w32 x y (2 ^ 15) (2 ^ 15) (nat_abs-le x h.sfits) (nat_abs-le y k.sfits) (omega arith)
 
 negated_mag : (n a : ℕ) → n ≤ suc a → mag (neg_ℤ (pos n)) ≤ a
 negated_mag zero a h = omega arith
@@ -100,8 +70,7 @@ quotient_fits w (negsuc a) (negsuc zero) h except =
 quotient_fits w (negsuc a) (negsuc (suc b)) h except = record { sfits = omega (arith, div-lt_self {n = suc a} {k = suc (suc b)} (omega arith) (omega arith)) }
 
 pub remainder_fits : (w : Width) (z k : ℤ) → SFits w k → (k ≡ pos 0 → ⊥) → SFits w (rem_z z k)
-remainder_fits w z k h except =
-    record { sfits = omega (arith, below_size (rem_z z k), remainder_size z k except, nat_abs-le k h.sfits) }
+remainder_fits w z k h except = fits_signed_from_abs w (rem_z z k) (omega (arith, remainder_size z k except, nat_abs-le k h.sfits))
 
 -- ---- the answers, as values
 
