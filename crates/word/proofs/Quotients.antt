@@ -5,17 +5,17 @@
 --     Divides, divided_value, multiplied_value               the answers, read as values
 -- Not here: the signed reading (`Signed`); both ends of the range and 01's cases, computed (`Cases`). The definitions are in
 -- specs/ (`Products`). Assumes nothing.
-use Rattle.std.proofs.Common.{◌≡◌, ℕ, zero, suc, ◌-◌, ◌/◌, ◌%◌, ◌^◌, ◌<◌, ◌≤◌, Bool, true, false, cond, not, ◌&&◌, eqb, ◌⊎◌, ℤ, pos, negsuc, ◌+ℤ◌, ◌*ℤ◌, neg_ℤ, nat_abs, refl, ap, ◌∙◌, inl, inr, zero-lt-suc, div-add-mod', div-le_self, arith, w16, w32, SFits, Some, None}
+use Rattle.std.proofs.Common.{◌≡◌, ℕ, zero, suc, ◌-◌, ◌/◌, ◌%◌, ◌^◌, ◌<◌, ◌≤◌, Bool, true, false, cond, not, ◌&&◌, eqb, ◌⊎◌, ℤ, pos, negsuc, ◌+ℤ◌, ◌*ℤ◌, neg_ℤ, nat_abs, sym, refl, ap, ◌∙◌, inl, inr, zero-lt-suc, div-add-mod', div-le_self, arith, w16, w32, SFits, Some, None}
 use Rattle.std.proofs.lemmas.Int.{quot-rem, rem_below, fits_signed_mul, fits_signed_from_abs}
 use native.Mathlib.Nat.{div-lt_self}
-use borrow.Author.Tests.{eqb-false}
+use Rattle.std.proofs.lemmas.Bool.{and_parts, not-true, eqb-false}
 use lib.Signed.{mag, non_neg, quot_z, rem_z, nat_abs-le}
 use mir.Syntax.{Width}
 use mir.Val.{hbits}
 use mir.ValLaws.{to_z-Fits, to_z-of_z}
 use Rattle.word.specs.Words.{joined}
 use Rattle.word.specs.Signed.{signed, bits_of, within}
-use Rattle.word.specs.Products.{multiplied, quotient_of, divided}
+use Rattle.word.specs.Products.{multiplied, divided}
 use Rattle.word.specs.declared.products.Quotient.{Quotient}
 use Rattle.word.proofs.Signed.{of_value, one_word}
 
@@ -80,28 +80,23 @@ pub record Divides (z k q r : ℤ) : Type 0 where
   pub sign : (r ≡ pos 0) ⊎ (non_neg r ≡ non_neg z)
   pub size : nat_abs r < nat_abs k
 
-quotient_value : (z k : ℤ) (q r : ℕ) → SFits w16 k → (k ≡ pos 0 → ⊥) → within w16 (quot_z z k) ≡ true
-    → quotient_of z k ≡ Some (record { quotient = q; remainder = r }) → Divides z k (signed w16 q) (signed w16 r)
-quotient_value z k q r k-fits other q-fits e =
-    let same : ◌≡◌ {A = Quotient} (record { quotient = bits_of w16 (quot_z z k); remainder = bits_of w16 (rem_z z k) }) (record { quotient = q; remainder = r }) = cc in
-    let q-is : bits_of w16 (quot_z z k) ≡ q = ap (λ (x : Quotient). x.quotient) same in
-    let r-is : bits_of w16 (rem_z z k) ≡ r = ap (λ (x : Quotient). x.remainder) same in
-    rw (← q-is, ← r-is, of_value w16 (quot_z z k) q-fits, to_z-of_z w16 _ (remainder_fits w16 z k k-fits other))
-    (record { dividend = again z k; sign = remainder_sign z k; size = remainder_size z k other })
+-- what a test lets through
+pub held : {A : Type 0} {x y : A} (t : Bool) → Some y ≡ cond t (Some x) None → (t ≡ true) × (y ≡ x)
+held true e = (refl, cc)
+held false e = let z : ◌≡◌ {A = ℕ} 0 1 = cc in absurd (omega arith)
 
-pub divided_value : (b a m q r : ℕ) → m < 2 ^ 16 → divided b a m ≡ Some (record { quotient = q; remainder = r })
-    → Divides (signed w32 (joined b a)) (signed w16 m) (signed w16 q) (signed w16 r)
+pub divided_value : (b a m : ℕ) (x : Quotient) → m < 2 ^ 16 → divided b a m ≡ Some x
+    → Divides (signed w32 (joined b a)) (signed w16 m) (signed w16 x.quotient) (signed w16 x.remainder)
 unfolding divided
-divided_value b a m q r m-fits e = by (eqb m 0) refl (within w16 (quot_z (signed w32 (joined b a)) (signed w16 m))) refl e
-  where
-    by : (t : Bool) → eqb m 0 ≡ t → (u : Bool) → within w16 (quot_z (signed w32 (joined b a)) (signed w16 m)) ≡ u
-        → cond (not t && u) (quotient_of (signed w32 (joined b a)) (signed w16 m)) None ≡ Some (record { quotient = q; remainder = r })
-        → Divides (signed w32 (joined b a)) (signed w16 m) (signed w16 q) (signed w16 r)
-    by false m-some true q-fits e =
-        quotient_value _ _ q r (to_z-Fits w16 m (record { fits = m-fits }))
-        (λ k. eqb-false m 0 m-some (one_word w16 m 0 m-fits (omega arith) k)) q-fits e
-    by false m-some false q-fits e = let z : ◌≡◌ {A = ℕ} 0 1 = cc in absurd (omega arith)
-    by true m-zero u q-fits e = let z : ◌≡◌ {A = ℕ} 0 1 = cc in absurd (omega arith)
+divided_value b a m x m-fits e =
+    let z : ℤ = signed w32 (joined b a) in
+    let k : ℤ = signed w16 m in
+    let tested : (not (eqb m 0) && within w16 (quot_z z k) ≡ true) × (x ≡ record { quotient = bits_of w16 (quot_z z k); remainder = bits_of w16 (rem_z z k) })
+    = held (not (eqb m 0) && within w16 (quot_z z k)) (sym e) in
+    let parts : (not (eqb m 0) ≡ true) × (within w16 (quot_z z k) ≡ true) = and_parts _ _ tested.0 in
+    let some : k ≡ pos 0 → ⊥ = λ h. eqb-false m 0 (not-true _ parts.0) (one_word w16 m 0 m-fits (omega arith) h) in
+    rw (tested.1, of_value w16 (quot_z z k) parts.1, to_z-of_z w16 _ (remainder_fits w16 z k (to_z-Fits w16 m (record { fits = m-fits })) some))
+    (record { dividend = again z k; sign = remainder_sign z k; size = remainder_size z k some })
 
 pub multiplied_value : (a m : ℕ) → a < 2 ^ 16 → m < 2 ^ 16
     → signed w32 (joined (multiplied a m).b (multiplied a m).a) ≡ signed w16 a *ℤ signed w16 m
