@@ -1,15 +1,13 @@
 -- Laws of the word layer that belong to no one function.
---     Tests       a test of two numbers, taken apart
 --     Weights     what a bit weighs
---     Carries     the carries into and out of bit 15 tell the overflow
+--     Halves      parts that `|` puts together are a sum
 --     Signed      the signed reading, at any width
 --     Quotients   the laws of MPY and DIV
 --     Places      one place of a long shift after others
 --     Cases       01's cases and the ends of the ranges, by computation
 --     Tight       each promise fixes its result
-pub mod Tests
 pub mod Weights
-pub mod Carries
+pub mod Halves
 pub mod Signed
 pub mod Quotients
 pub mod Places

@@ -1,38 +1,27 @@
 -- The places of a long shift. First what each kind needs: LSL and ASL `left`, ASR `shr_shr_z`, the rotates `around_left` and
 -- `around_right`, O `lost`. Then the laws: to go i + j places is to go i and then j, of the double word (`moved_add`) and of
 -- O (`overflowed_add`), and to go none changes nothing (`moved_none`, `overflowed_none`). Assumes nothing.
-use Rattle.std.proofs.Common.{◌≡◌, ℕ, zero, suc, ◌+◌, ◌-◌, ◌*◌, ◌/◌, ◌%◌, ◌^◌, ◌<◌, ◌≤◌, Bool, true, false, cond, not, ◌&&◌, ◌||◌, eqb, ℤ, pos, negsuc, sym, refl, ap, ◌∙◌, mod-lt, one-mul, div-add-mod', zero-mul, div-one, arith, pow_pos, pow-add, shr-shr, shr_lt, w32, Fits, SFits, to_z, of_z, eq-eqb, ne_eqb, eqb-true}
+use Rattle.std.proofs.Common.{◌≡◌, ℕ, zero, suc, ◌+◌, ◌-◌, ◌*◌, ◌/◌, ◌%◌, ◌^◌, ◌<◌, ◌≤◌, Bool, true, false, not, ◌&&◌, ◌||◌, eqb, ℤ, pos, negsuc, sym, refl, ap, ◌∙◌, mod-lt, one-mul, div-add-mod', zero-mul, div-one, arith, pow_pos, pow-add, shr-shr, shr_lt, w32, Fits, SFits, to_z, of_z, eq-eqb, ne_eqb, eqb-true}
 use mathlib.Core.Path.{subst⁻¹}
 use mathlib.Core.Bool.{or-false}
-use native.Mathlib.Nat.{zero-div, zero-mod, mul-add-mod_self_right, div-div-eq-div-mul, mul-div-mul_right}
+use native.Mathlib.Nat.{zero-div, zero-mod, div-div-eq-div-mul, mul-div-mul_right}
+use Rattle.std.proofs.lemmas.Nat.{mul-mod_first}
 use lib.Arith.{digits_div, digits_mod, digits_lt, mul_pred}
 use lib.Pow.{field}
 use lib.Signed.{shr_z, mag_shr}
 use borrow.Author.Tests.{eqb-false}
 use mir.Syntax.{Width}
 use mir.ValLaws.{to_z-of_z, of_z-to_z, to_z-Fits, sfits_le}
-use Rattle.word.specs.Long.{places, moved, loses, overflowed}
+use Rattle.word.specs.Long.{moved, loses, overflowed}
 use Rattle.word.specs.declared.long.LongShift.{LongShift}
 use Rattle.word.specs.declared.long.LongShift.TheVariants.{Asl, Lsl, Rrl, Asr, Lsr, Rrr}
 
-pub places_le : (n : ℕ) → places n ≤ 16
-places_le n = at (eqb (n % 16) 0)
-  where
-    at : (b : Bool) → cond b 16 (n % 16) ≤ 16
-    at true = omega arith
-    at false = omega arith
-
 -- ---- to the left
-
-mod_mul : (x y k : ℕ) → x % k * y % k ≡ x * y % k
-mod_mul x y k =
-    let e : x * y ≡ x / k * y * k + x % k * y = omega (arith, ap (λ (t : ℕ). t * y) (div-add-mod' x k)) in
-    sym (ap (λ (t : ℕ). t % k) e ∙ mul-add-mod_self_right (x / k * y) k (x % k * y))
 
 left : (k d i j : ℕ) → d * 2 ^ (i + j) % k ≡ d * 2 ^ i % k * 2 ^ j % k
 left k d i j =
     let e : d * 2 ^ (i + j) ≡ d * 2 ^ i * 2 ^ j = omega (arith, ap (λ (t : ℕ). d * t) (pow-add 2 i j)) in
-    ap (λ (t : ℕ). t % k) e ∙ sym (mod_mul (d * 2 ^ i) (2 ^ j) k)
+    ap (λ (t : ℕ). t % k) e ∙ sym (mul-mod_first (d * 2 ^ i) (2 ^ j) k)
 
 -- ---- to the right, with the sign
 
@@ -153,7 +142,7 @@ pub moved_add : (kind : LongShift) (i j d : ℕ) → i + j ≤ 32 → d < 2 ^ 32
 unfolding moved
 moved_add Asl i j d l h =
     let e : moved Asl i d * 2 ^ j % 2 ^ 31 ≡ d * 2 ^ (i + j) % 2 ^ 31
-    = sym (mod_mul (moved Asl i d) (2 ^ j) (2 ^ 31)) ∙ ap (λ (t : ℕ). t * 2 ^ j % 2 ^ 31) (asl_low i d) ∙ sym (left (2 ^ 31) d i j) in
+    = sym (mul-mod_first (moved Asl i d) (2 ^ j) (2 ^ 31)) ∙ ap (λ (t : ℕ). t * 2 ^ j % 2 ^ 31) (asl_low i d) ∙ sym (left (2 ^ 31) d i j) in
     omega (arith, asl_high i d, e)
 moved_add Lsl i j d l h = left (2 ^ 32) d i j
 moved_add Rrl i j d l h =
@@ -175,7 +164,7 @@ low_lost i j d l =
     let m : ℕ = d % 2 ^ 31 in
     let e : 31 ≡ j + (c + i) = omega arith in
     let f : 31 - j ≡ c + i = omega arith in
-    ap (λ (t : ℕ). t / 2 ^ (31 - j)) (asl_low i d ∙ sym (mod_mul d (2 ^ i) (2 ^ 31)))
+    ap (λ (t : ℕ). t / 2 ^ (31 - j)) (asl_low i d ∙ sym (mul-mod_first d (2 ^ i) (2 ^ 31)))
     ∙ ap (λ (t : ℕ). m * 2 ^ i % 2 ^ t / 2 ^ (31 - j)) e
     ∙ ap (λ (t : ℕ). m * 2 ^ i % 2 ^ (j + (c + i)) / 2 ^ t) f
     ∙ field (m * 2 ^ i) j (c + i)

@@ -5,42 +5,27 @@
 --     Divides, divided_value, multiplied_value               the answers, read as values
 -- Not here: the signed reading (`Signed`); both ends of the range and 01's cases, computed (`Cases`). The definitions are in
 -- specs/ (`Products`). Assumes nothing.
-use Rattle.std.proofs.Common.{◌≡◌, ℕ, zero, suc, ◌+◌, ◌-◌, ◌*◌, ◌/◌, ◌%◌, ◌^◌, ◌<◌, ◌≤◌, Bool, true, false, cond, not, ◌&&◌, eqb, ◌⊎◌, ℤ, pos, negsuc, ◌+ℤ◌, ◌*ℤ◌, neg_ℤ, nat_abs, sym, refl, ap, ◌∙◌, inl, inr, mod-lt, zero-lt-suc, mul-le-mul, div-add-mod', zero-mul, div-le_self, arith, w16, w32, SFits, Some, None}
+use Rattle.std.proofs.Common.{◌≡◌, ℕ, zero, suc, ◌-◌, ◌/◌, ◌%◌, ◌^◌, ◌<◌, ◌≤◌, Bool, true, false, cond, not, ◌&&◌, eqb, ◌⊎◌, ℤ, pos, negsuc, ◌+ℤ◌, ◌*ℤ◌, neg_ℤ, nat_abs, sym, refl, ap, ◌∙◌, inl, inr, zero-lt-suc, div-add-mod', div-le_self, arith, w16, w32, SFits, Some, None}
+use Rattle.std.proofs.lemmas.Int.{quot-rem, rem_below, fits_signed_mul, fits_signed_from_abs}
 use native.Mathlib.Nat.{div-lt_self}
-use borrow.Author.Tests.{eqb-false}
-use lib.IntN.{neg_ℤ-+ℤ}
+use Rattle.std.proofs.lemmas.Bool.{and_parts, not-true, eqb-false}
 use lib.Signed.{mag, non_neg, quot_z, rem_z, nat_abs-le}
 use mir.Syntax.{Width}
 use mir.Val.{hbits}
 use mir.ValLaws.{to_z-Fits, to_z-of_z}
 use Rattle.word.specs.Words.{joined}
 use Rattle.word.specs.Signed.{signed, bits_of, within}
-use Rattle.word.specs.Products.{multiplied, quotient_of, divided}
+use Rattle.word.specs.Products.{multiplied, divided}
 use Rattle.word.specs.declared.products.Quotient.{Quotient}
 use Rattle.word.proofs.Signed.{of_value, one_word}
+
+-- quotient times divisor plus remainder is the dividend
+pub again : (z k : ℤ) → quot_z z k *ℤ k +ℤ rem_z z k ≡ z
+again z k = quot-rem z k
 
 negated_size : (n : ℕ) → nat_abs (neg_ℤ (pos n)) ≡ n
 negated_size zero = refl
 negated_size (suc n) = refl
-
-negated_sum : (m n : ℕ) → neg_ℤ (pos m) +ℤ neg_ℤ (pos n) ≡ neg_ℤ (pos (m + n))
-negated_sum m n = sym (neg_ℤ-+ℤ (pos m) (pos n))
-
-negated_product : (q b : ℕ) → neg_ℤ (pos q) *ℤ pos b ≡ neg_ℤ (pos (q * b))
-negated_product zero b = rw zero-mul
-negated_product (suc q) b = refl
-
-twice_negated_product : (q b : ℕ) → neg_ℤ (pos q) *ℤ negsuc b ≡ pos (q * suc b)
-twice_negated_product zero b = rw zero-mul
-twice_negated_product (suc q) b = refl
-
--- quotient times divisor plus remainder is the dividend
-pub again : (z k : ℤ) → quot_z z k *ℤ k +ℤ rem_z z k ≡ z
-again (pos a) (pos b) = ap pos (div-add-mod' a b)
-again (pos a) (negsuc b) = rw (twice_negated_product (a / suc b) b) (ap pos (div-add-mod' a (suc b)))
-again (negsuc a) (pos b) =
-    rw (negated_product (suc a / b) b, negated_sum (suc a / b * b) (suc a % b), div-add-mod' (suc a) b)
-again (negsuc a) (negsuc b) = rw (negated_sum (suc a / suc b * suc b) (suc a % suc b), div-add-mod' (suc a) (suc b))
 
 -- the remainder has the dividend's sign, or is 0
 pub remainder_sign : (z k : ℤ) → (rem_z z k ≡ pos 0) ⊎ (non_neg (rem_z z k) ≡ non_neg z)
@@ -51,13 +36,9 @@ remainder_sign (negsuc a) k = by (suc a % nat_abs k)
     by zero = inl refl
     by (suc r) = inr refl
 
-remainder_is : (z k : ℤ) → nat_abs (rem_z z k) ≡ nat_abs z % nat_abs k
-remainder_is (pos a) k = refl
-remainder_is (negsuc a) k = negated_size (suc a % nat_abs k)
-
 -- and is smaller than the divisor
 pub remainder_size : (z k : ℤ) → (k ≡ pos 0 → ⊥) → nat_abs (rem_z z k) < nat_abs k
-remainder_size z k h = rw (remainder_is z k) (mod-lt (nat_abs z) (some k h))
+remainder_size z k h = rem_below z k (some k h)
   where
     some : (k : ℤ) → (k ≡ pos 0 → ⊥) → 0 < nat_abs k
     some (pos zero) h = absurd (h refl)
@@ -72,19 +53,8 @@ toward_zero (negsuc a) (negsuc b) = refl
 
 -- ---- what fits
 
-below_size : (z : ℤ) → mag z ≤ nat_abs z
-below_size (pos n) = omega arith
-below_size (negsuc n) = omega arith
-
-product_size : (x y : ℤ) → nat_abs (x *ℤ y) ≡ nat_abs x * nat_abs y
-product_size (pos a) (pos b) = refl
-product_size (pos a) (negsuc b) = negated_size (a * suc b)
-product_size (negsuc a) (pos b) = negated_size (suc a * b)
-product_size (negsuc a) (negsuc b) = refl
-
 pub product_fits : (x y : ℤ) → SFits w16 x → SFits w16 y → SFits w32 (x *ℤ y)
-product_fits x y h k =
-    record { sfits = omega (arith, below_size (x *ℤ y), product_size x y, mul-le-mul (nat_abs-le x h.sfits) (nat_abs-le y k.sfits)) }
+product_fits x y h k = fits_signed_mul w32 x y (2 ^ 15) (2 ^ 15) (nat_abs-le x h.sfits) (nat_abs-le y k.sfits) (omega arith)
 
 negated_mag : (n a : ℕ) → n ≤ suc a → mag (neg_ℤ (pos n)) ≤ a
 negated_mag zero a h = omega arith
@@ -100,8 +70,7 @@ quotient_fits w (negsuc a) (negsuc zero) h except =
 quotient_fits w (negsuc a) (negsuc (suc b)) h except = record { sfits = omega (arith, div-lt_self {n = suc a} {k = suc (suc b)} (omega arith) (omega arith)) }
 
 pub remainder_fits : (w : Width) (z k : ℤ) → SFits w k → (k ≡ pos 0 → ⊥) → SFits w (rem_z z k)
-remainder_fits w z k h except =
-    record { sfits = omega (arith, below_size (rem_z z k), remainder_size z k except, nat_abs-le k h.sfits) }
+remainder_fits w z k h except = fits_signed_from_abs w (rem_z z k) (omega (arith, remainder_size z k except, nat_abs-le k h.sfits))
 
 -- ---- the answers, as values
 
@@ -111,28 +80,23 @@ pub record Divides (z k q r : ℤ) : Type 0 where
   pub sign : (r ≡ pos 0) ⊎ (non_neg r ≡ non_neg z)
   pub size : nat_abs r < nat_abs k
 
-quotient_value : (z k : ℤ) (q r : ℕ) → SFits w16 k → (k ≡ pos 0 → ⊥) → within w16 (quot_z z k) ≡ true
-    → quotient_of z k ≡ Some (record { quotient = q; remainder = r }) → Divides z k (signed w16 q) (signed w16 r)
-quotient_value z k q r k-fits other q-fits e =
-    let same : ◌≡◌ {A = Quotient} (record { quotient = bits_of w16 (quot_z z k); remainder = bits_of w16 (rem_z z k) }) (record { quotient = q; remainder = r }) = cc in
-    let q-is : bits_of w16 (quot_z z k) ≡ q = ap (λ (x : Quotient). x.quotient) same in
-    let r-is : bits_of w16 (rem_z z k) ≡ r = ap (λ (x : Quotient). x.remainder) same in
-    rw (← q-is, ← r-is, of_value w16 (quot_z z k) q-fits, to_z-of_z w16 _ (remainder_fits w16 z k k-fits other))
-    (record { dividend = again z k; sign = remainder_sign z k; size = remainder_size z k other })
+-- what a test lets through
+pub held : {A : Type 0} {x y : A} (t : Bool) → Some y ≡ cond t (Some x) None → (t ≡ true) × (y ≡ x)
+held true e = (refl, cc)
+held false e = let z : ◌≡◌ {A = ℕ} 0 1 = cc in absurd (omega arith)
 
-pub divided_value : (b a m q r : ℕ) → m < 2 ^ 16 → divided b a m ≡ Some (record { quotient = q; remainder = r })
-    → Divides (signed w32 (joined b a)) (signed w16 m) (signed w16 q) (signed w16 r)
+pub divided_value : (b a m : ℕ) (x : Quotient) → m < 2 ^ 16 → divided b a m ≡ Some x
+    → Divides (signed w32 (joined b a)) (signed w16 m) (signed w16 x.quotient) (signed w16 x.remainder)
 unfolding divided
-divided_value b a m q r m-fits e = by (eqb m 0) refl (within w16 (quot_z (signed w32 (joined b a)) (signed w16 m))) refl e
-  where
-    by : (t : Bool) → eqb m 0 ≡ t → (u : Bool) → within w16 (quot_z (signed w32 (joined b a)) (signed w16 m)) ≡ u
-        → cond (not t && u) (quotient_of (signed w32 (joined b a)) (signed w16 m)) None ≡ Some (record { quotient = q; remainder = r })
-        → Divides (signed w32 (joined b a)) (signed w16 m) (signed w16 q) (signed w16 r)
-    by false m-some true q-fits e =
-        quotient_value _ _ q r (to_z-Fits w16 m (record { fits = m-fits }))
-        (λ k. eqb-false m 0 m-some (one_word w16 m 0 m-fits (omega arith) k)) q-fits e
-    by false m-some false q-fits e = let z : ◌≡◌ {A = ℕ} 0 1 = cc in absurd (omega arith)
-    by true m-zero u q-fits e = let z : ◌≡◌ {A = ℕ} 0 1 = cc in absurd (omega arith)
+divided_value b a m x m-fits e =
+    let z : ℤ = signed w32 (joined b a) in
+    let k : ℤ = signed w16 m in
+    let tested : (not (eqb m 0) && within w16 (quot_z z k) ≡ true) × (x ≡ record { quotient = bits_of w16 (quot_z z k); remainder = bits_of w16 (rem_z z k) })
+    = held (not (eqb m 0) && within w16 (quot_z z k)) (sym e) in
+    let parts : (not (eqb m 0) ≡ true) × (within w16 (quot_z z k) ≡ true) = and_parts _ _ tested.0 in
+    let some : k ≡ pos 0 → ⊥ = λ h. eqb-false m 0 (not-true _ parts.0) (one_word w16 m 0 m-fits (omega arith) h) in
+    rw (tested.1, of_value w16 (quot_z z k) parts.1, to_z-of_z w16 _ (remainder_fits w16 z k (to_z-Fits w16 m (record { fits = m-fits })) some))
+    (record { dividend = again z k; sign = remainder_sign z k; size = remainder_size z k some })
 
 pub multiplied_value : (a m : ℕ) → a < 2 ^ 16 → m < 2 ^ 16
     → signed w32 (joined (multiplied a m).b (multiplied a m).a) ≡ signed w16 a *ℤ signed w16 m

@@ -4,14 +4,14 @@
 -- Assumes nothing.
 use Rattle.std.specs.Prelude.{ℕ, ◌^◌, Bool, ℤ, nat_lt}
 use Rattle.std.specs.Int.Signed.{mag}
-use Rattle.std.specs.Int.{Width}
-use mir.Val.{to_z, of_z, hbits}
+use Rattle.std.specs.Int.{Width, cast_signed, cast_unsigned}
+use mir.Val.{hbits}
 
 abbrev pub signed : Width → ℕ → ℤ
-signed w n = to_z w n
+signed w n = cast_signed w n
 
 abbrev pub bits_of : Width → ℤ → ℕ
-bits_of w z = of_z w z
+bits_of w z = cast_unsigned w z
 
 -- from -2 ^ 15 to 2 ^ 15 - 1 for a word: `mag` is n both for n and for -(n + 1)
 abbrev pub within : Width → ℤ → Bool

@@ -5,7 +5,7 @@ ghost use Rattle.word.specs.Words.{weight, complemented, byte_of, with_byte, bit
 pub fn weight_of(e: bool) -> u16
     ensures { result ≡ weight e }
 {
-    if e { 1 } else { 0 }
+    u16::from(e)
 }
 
 pub fn both(a: u16, b: u16) -> u16
@@ -29,37 +29,31 @@ pub fn differing(a: u16, b: u16) -> u16
 pub fn complement(word: u16) -> u16
     ensures { result ≡ complemented word }
 {
-    0o177777 - word
+    !word
 }
 
 pub fn byte_of(odd: bool, word: u16) -> u8
     ensures { result ≡ byte_of odd word }
 {
-    if odd {
-        (word % 256) as u8
-    } else {
-        (word / 256) as u8
-    }
+    let [high, low] = word.to_be_bytes();
+    if odd { low } else { high }
 }
 
 pub fn with_byte(odd: bool, word: u16, byte: u8) -> u16
     ensures { result ≡ with_byte odd word byte }
 {
-    if odd {
-        word / 256 * 256 + byte as u16
-    } else {
-        byte as u16 * 256 + word % 256
-    }
+    let [high, low] = word.to_be_bytes();
+    u16::from_be_bytes(if odd { [high, byte] } else { [byte, low] })
 }
 
 pub fn clear_bits(mask: u16, word: u16) -> u16
     ensures { result ≡ bits_cleared mask word }
 {
-    word & (0o177777 - mask)
+    word & !mask
 }
 
 pub fn every_bit_set(mask: u16, word: u16) -> bool
     ensures { result ≡ every_bit_set mask word }
 {
-    (word & mask) == mask
+    word & mask == mask
 }

@@ -1,5 +1,5 @@
-// Layer 1: 16-bit words. Every function takes all values of its types, and its promise is one
-// equation to a definition in specs/.
+// Layer 1: 16-bit words. Every public function takes all values of its types, and its promise is
+// one equation to a definition in specs/.
 #![tactic(auto)]
 
 pub mod bits;

@@ -1,6 +1,8 @@
-// The long shifts of B,A, a place at a time.
-ghost use Rattle.std.specs.Prelude.{◌≡◌, false, ◌||◌};
-ghost use Rattle.word.specs.Long.{places, moved, overflowed, long_shifted};
+// The long shifts of B,A.
+ghost use Rattle.std.specs.Prelude.{◌≡◌, ◌<◌, ◌≤◌};
+ghost use Rattle.word.specs.Long.{places, moved, loses, overflowed, long_shifted};
+
+use crate::values::{double_bits, double_value, join, split};
 
 #[derive(Clone, Copy, Debug, PartialEq, Eq)]
 pub enum LongShift {
@@ -12,58 +14,59 @@ pub enum LongShift {
     Rrr,
 }
 
-#[derive(Clone, Copy)]
+#[derive(Clone, Copy, Debug, PartialEq, Eq)]
 pub struct Long {
     pub b: u16,
     pub a: u16,
     pub o: bool,
 }
 
-fn places_of(n: u16) -> u16
+// The low four bits, where 0 means 16.
+fn places_of(n: u16) -> u32
     ensures { result ≡ places n }
 {
-    if n % 16 == 0 { 16 } else { n % 16 }
-}
-
-// The double word after one place.
-fn place(kind: LongShift, d: u32) -> u32
-    ensures { result ≡ moved kind 1 d }
-{
-    match kind {
-        LongShift::Asl => d / 0x8000_0000 * 0x8000_0000 + d % 0x4000_0000 * 2,
-        LongShift::Lsl => d % 0x8000_0000 * 2,
-        LongShift::Rrl => d % 0x8000_0000 * 2 + d / 0x8000_0000,
-        LongShift::Asr => d / 0x8000_0000 * 0x8000_0000 + d / 2,
-        LongShift::Lsr => d / 2,
-        LongShift::Rrr => d % 2 * 0x8000_0000 + d / 2,
+    match n % 16 {
+        0 => 16,
+        places => u32::from(places),
     }
 }
 
-// O before the first place: ASL and ASR clear it.
-fn o_before(kind: LongShift, o: bool) -> bool
-    ensures { result ≡ overflowed kind 0 0 o }
+// The double word after n places.
+#[tactic(auto, unfolding(crate::specs::Long::moved))]
+fn shifted(kind: LongShift, n: u32, d: u32) -> u32
+    requires some { 0 < n }
+    requires few { n ≤ 16 }
+    ensures { result ≡ moved kind n d }
 {
     match kind {
-        LongShift::Asl => false,
-        LongShift::Lsl => o,
-        LongShift::Rrl => o,
+        LongShift::Asl => d & 0x8000_0000 | d << n & 0x7fff_ffff,
+        LongShift::Lsl => d << n,
+        LongShift::Rrl => d.rotate_left(n),
+        LongShift::Asr => double_bits(double_value(d) >> n),
+        LongShift::Lsr => d >> n,
+        LongShift::Rrr => d.rotate_right(n),
+    }
+}
+
+// Whether ASL by n places loses a bit other than the sign.
+#[tactic(auto, unfolding(crate::specs::Long::loses))]
+fn loses(n: u32, d: u32) -> bool
+    requires { n ≤ 16 }
+    ensures { result ≡ loses n d }
+{
+    let lost = (d & 0x7fff_ffff) >> (31 - n);
+    lost != (d >> 31) * ((1 << n) - 1)
+}
+
+// O after n places.
+fn overflow(kind: LongShift, n: u32, d: u32, o: bool) -> bool
+    requires { n ≤ 16 }
+    ensures { result ≡ overflowed kind n d o }
+{
+    match kind {
+        LongShift::Asl => loses(n, d),
         LongShift::Asr => false,
-        LongShift::Lsr => o,
-        LongShift::Rrr => o,
-    }
-}
-
-// O after one place more of d: ASL loses bit 30.
-fn o_after(kind: LongShift, d: u32, o: bool) -> bool
-    ensures { result ≡ (o || overflowed kind 1 d false) }
-{
-    match kind {
-        LongShift::Asl => o || d % 0x8000_0000 / 0x4000_0000 != d / 0x8000_0000,
-        LongShift::Lsl => o,
-        LongShift::Rrl => o,
-        LongShift::Asr => o,
-        LongShift::Lsr => o,
-        LongShift::Rrr => o,
+        LongShift::Lsl | LongShift::Rrl | LongShift::Lsr | LongShift::Rrr => o,
     }
 }
 
@@ -71,17 +74,11 @@ pub fn long_shift(kind: LongShift, n: u16, b: u16, a: u16, o: bool) -> Long
     ensures { result ≡ long_shifted kind n b a o }
 {
     let count = places_of(n);
-    let mut d = crate::values::join(b, a);
-    let mut over = o_before(kind, o);
-    let mut i: u16 = 0;
-    while i < count {
-        over = o_after(kind, d, over);
-        d = place(kind, d);
-        i += 1;
-    }
+    let d = join(b, a);
+    let (b, a) = split(shifted(kind, count, d));
     Long {
-        b: (d / 0o200000) as u16,
-        a: (d % 0o200000) as u16,
-        o: over,
+        b,
+        a,
+        o: overflow(kind, count, d, o),
     }
 }

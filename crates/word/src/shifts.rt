@@ -2,6 +2,9 @@
 ghost use Rattle.std.specs.Prelude.{◌≡◌};
 ghost use Rattle.word.specs.Shifts.{turned, extended, shifted, unshifted};
 
+use crate::bits::weight_of;
+use crate::values::word_value;
+
 #[derive(Clone, Copy, Debug, PartialEq, Eq)]
 pub enum ShiftCode {
     Als,
@@ -14,7 +17,7 @@ pub enum ShiftCode {
     Alf,
 }
 
-#[derive(Clone, Copy)]
+#[derive(Clone, Copy, Debug, PartialEq, Eq)]
 pub struct Shifted {
     pub word: u16,
     pub e: bool,
@@ -24,14 +27,14 @@ fn turn(code: ShiftCode, word: u16, e: bool) -> u16
     ensures { result ≡ turned code word e }
 {
     match code {
-        ShiftCode::Als => word / 0o100000 * 0o100000 + word % 0o40000 * 2,
-        ShiftCode::Ars => word / 0o100000 * 0o100000 + word / 2,
-        ShiftCode::Ral => word % 0o100000 * 2 + word / 0o100000,
-        ShiftCode::Rar => word / 2 + word % 2 * 0o100000,
-        ShiftCode::Alr => word % 0o40000 * 2,
-        ShiftCode::Era => word / 2 + crate::bits::weight_of(e) * 0o100000,
-        ShiftCode::Ela => word % 0o100000 * 2 + crate::bits::weight_of(e),
-        ShiftCode::Alf => word % 0o10000 * 16 + word / 0o10000,
+        ShiftCode::Als => word & 0o100000 | word << 1 & 0o77777,
+        ShiftCode::Ars => (word_value(word) >> 1).cast_unsigned(),
+        ShiftCode::Ral => word.rotate_left(1),
+        ShiftCode::Rar => word.rotate_right(1),
+        ShiftCode::Alr => word << 1 & 0o77777,
+        ShiftCode::Era => word >> 1 | weight_of(e) << 15,
+        ShiftCode::Ela => word << 1 | weight_of(e),
+        ShiftCode::Alf => word.rotate_left(4),
     }
 }
 
@@ -40,14 +43,14 @@ fn extend(code: ShiftCode, word: u16, e: bool) -> bool
     ensures { result ≡ extended code word e }
 {
     match code {
-        ShiftCode::Als => e,
-        ShiftCode::Ars => e,
-        ShiftCode::Ral => e,
-        ShiftCode::Rar => e,
-        ShiftCode::Alr => e,
-        ShiftCode::Era => word % 2 == 1,
-        ShiftCode::Ela => word / 0o100000 % 2 == 1,
-        ShiftCode::Alf => e,
+        ShiftCode::Era => word & 1 != 0,
+        ShiftCode::Ela => word & 0o100000 != 0,
+        ShiftCode::Als
+        | ShiftCode::Ars
+        | ShiftCode::Ral
+        | ShiftCode::Rar
+        | ShiftCode::Alr
+        | ShiftCode::Alf => e,
     }
 }
 
@@ -66,8 +69,5 @@ pub fn pass(code: ShiftCode, word: u16, e: bool) -> Shifted
     ensures { result ≡ unshifted code word e }
 {
     let after = extend(code, word, e);
-    Shifted {
-        word: word,
-        e: after,
-    }
+    Shifted { word, e: after }
 }

@@ -2,7 +2,9 @@
 ghost use Rattle.std.specs.Prelude.{◌≡◌};
 ghost use Rattle.word.specs.Sums.{sum, incremented, decremented, address};
 
-#[derive(Clone, Copy)]
+use crate::values::word_value;
+
+#[derive(Clone, Copy, Debug, PartialEq, Eq)]
 pub struct Sum {
     pub word: u16,
     // out of bit 15
@@ -11,16 +13,16 @@ pub struct Sum {
     pub overflow: bool,
 }
 
+#[tactic(auto, unfolding(crate::specs::Sums::sum))]
 pub fn add(a: u16, b: u16) -> Sum
     ensures { result ≡ sum a b }
 {
-    let word = std::num::wrapping_add_u16(a, b);
-    // The carry into bit 15, against the carry out of it.
-    let into = 0o100000 <= a % 0o100000 + b % 0o100000;
+    let (word, carry) = a.overflowing_add(b);
+    let (_, overflow) = word_value(a).overflowing_add(word_value(b));
     Sum {
-        word: word,
-        carry: word < a,
-        overflow: into != (word < a),
+        word,
+        carry,
+        overflow,
     }
 }
 
@@ -40,5 +42,5 @@ pub fn decrement(word: u16) -> Sum
 pub fn past(a: u16, n: u16) -> u16
     ensures { result ≡ address a n }
 {
-    std::num::wrapping_add_u16(a, n) % 0o100000
+    a.wrapping_add(n) % 0o100000
 }

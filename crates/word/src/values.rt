@@ -1,4 +1,5 @@
-// The signed value of a word and of a double word, the bits of a value, and two words joined.
+// The signed value of a word and of a double word, the bits of a value, and two words joined and
+// parted again.
 ghost use Rattle.std.specs.Prelude.{◌≡◌, ◌/◌, ◌%◌};
 ghost use Rattle.std.specs.Int.{w16, w32};
 ghost use Rattle.word.specs.Words.{joined};

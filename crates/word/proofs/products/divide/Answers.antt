@@ -1,21 +1,14 @@
 -- Dividend and divisor are read back from their bits (`z-read`, `k-read`); the remainder has a word, since the divisor has one
 -- (`remainder_fits`). Assumes nothing.
-use Rattle.std.proofs.Common.{refl, ◌≡◌, ℕ, Bool, true, false, cond, Some, None, ℤ, pos, ap, ◌∙◌, ne_eqb, arith, w16, w32, SFits, to_z, of_z}
+use Rattle.std.proofs.Common.{◌≡◌, ℤ, pos, ap, ◌∙◌, ne_eqb, arith, w16, w32, SFits, to_z, of_z}
 use mir.ValLaws.{to_z-of_z, to_z-Fits}
 use lib.Signed.{quot_z, rem_z}
 use Rattle.word.specs.Words.{joined}
-use Rattle.word.specs.Signed.{signed, bits_of, within}
+use Rattle.word.specs.Signed.{signed, within}
 use Rattle.word.specs.Products.{divided}
 use Rattle.word.proofs.Signed.{read_wider, wider}
-use Rattle.word.proofs.Quotients.{remainder_fits}
+use Rattle.word.proofs.Quotients.{held, remainder_fits}
 use Rattle.word.proofs.products.divide.Goals as goal
-
-had : (z : ℤ) (n : ℕ) → Some n ≡ cond (within w16 z) (Some (bits_of w16 z)) None → (within w16 z ≡ true) × (n ≡ bits_of w16 z)
-had z n e = by (within w16 z) refl e
-  where
-    by : (t : Bool) → within w16 z ≡ t → Some n ≡ cond t (Some (bits_of w16 z)) None → (within w16 z ≡ true) × (n ≡ bits_of w16 z)
-    by true f e = (f, cc)
-    by false f e = let z : ◌≡◌ {A = ℕ} 0 1 = cc in absurd (omega arith)
 
 pub returns : goal.returns
 unfolding divided
@@ -29,6 +22,6 @@ returns c =
     rw (c.from-divisor.ensures, c.word_value.ensures) (read_wider k k-fits) in
     let divides = rw (z-read, k-read) at c.in_ok-checked_div.ensures in
     let some : k ≡ pos 0 → ⊥ = λ e. let h = rw e at divides.0.0 in absurd (omega arith) in
-    let q = had (quot_z z k) c.in_ok-quotient.quotient (rw (divides.1, to_z-of_z w32 _ divides.0.1) at c.in_ok-quotient.ensures) in
+    let q = held (within w16 (quot_z z k)) (rw (divides.1, to_z-of_z w32 _ divides.0.1) at c.in_ok-quotient.ensures) in
     let r : SFits w16 (rem_z z k) = remainder_fits w16 z k k-fits some in
     rw (q.1, c.cast_unsigned.ensures, z-read, k-read, to_z-of_z w32 _ (wider _ r), to_z-of_z w16 _ r, ne_eqb c.args.m 0 (λ e. some (ap (signed w16) e)), q.0)
