@@ -11,7 +11,7 @@ use Rattle.acts.specs.Acts.{Act, load, follow, exec, Performs, Gives}
 use Rattle.effects.specs.Ways.{way_act}
 use Rattle.rules.specs.Rules.{reached, words_of, act}
 use Rattle.acts.specs.declared.record.Registers.{Registers}
-use Rattle.acts.specs.declared.replies.Stepped.{Stepped}
+use Rattle.acts.specs.declared.replies.Stop.{Stop}
 use Rattle.effects.specs.declared.ways.Way.{Way}
 use Rattle.rules.specs.declared.actions.Operand.{Operand}
 use Rattle.rules.specs.declared.actions.Action.{Action}
@@ -32,7 +32,7 @@ module _ (pages : List ℕ) (r : Registers) (m : List ℕ) {from : Operand} {at 
   pub by_word : {word : ℕ} → from ≡ Operand.Made word → at ≡ word → words ≡ 1 → Starts pages from r m at words
   by_word e a l = rw (e, a, l) (record { goes = λ k. refl; length = refl })
 
-pub arrives : {pages : List ℕ} {from : Operand} {r : Registers} {m n : List ℕ} {at words to : ℕ} {s : Stepped} (way : Way)
+pub arrives : {pages : List ℕ} {from : Operand} {r : Registers} {m n : List ℕ} {at words to : ℕ} {s : Result Registers Stop} (way : Way)
     → Starts pages from r m at words → Leads pages r m at to → Performs pages (way_act way r to words) r m s n
     → Performs pages (act (Action.At way from) r) r m s n
 arrives {from = from} {r = r} way starts leads h =

@@ -7,18 +7,15 @@ ghost use Rattle.effects.specs.Group.{PerformsAlone};
 ghost use Rattle.rules.specs.Rules.{act, step_act};
 
 use crate::trap::carry_out_trap;
-use acts::record::{Registers, index};
-use acts::replies::{Refusal, Stepped, completed, refuse, stop_by, violate};
+use acts::record::Registers;
+use acts::replies::{Refusal, Stop};
 use code::codes::is_privileged;
 use effects::group::{
     alter_skip, copy_from_index, copy_to_index, exchange, input_output, long_rotate, shift_rotate,
     step_index,
 };
 use effects::ways::{Way, at_address};
-use maps::access::read_word;
-use maps::chains::follow;
 use maps::pages::{Map, is_protecting};
-use maps::troubles::Got;
 use rules::actions::{Action, Operand, action_of};
 use strings::moves::move_string;
 use strings::strings::{compare, load_byte, mask_bits, store_byte};
@@ -26,57 +23,59 @@ use word::sums::{decrement, increment, past};
 
 // An instruction goes its way at the address that its address word leads to. With bit 15 clear an address word is the
 // address.
-fn go_way(way: Way, from: Operand, r: Registers, pages: &[u16], memory: &mut [u16]) -> Stepped
+fn go_way(
+    way: Way,
+    from: Operand,
+    r: Registers,
+    pages: &[u16],
+    memory: &mut [u16],
+) -> Result<Registers, Stop>
     ensures { Performs pages.now (act (Action.At way from) r) r memory.old result memory.new }
 {
-    let mut at: u16 = 0;
-    let mut words: u16 = 1;
-    match from {
-        Operand::Made(word) => at = word,
-        Operand::Next => {
-            words = 2;
-            match read_word(pages, memory, r.wmap, Map::Execute, past(r.p, 1), r.a, r.b) {
-                Got::Value(w) => at = w,
-                Got::Ends(t) => return stop_by(t, r),
-            }
-        }
-    }
-    if at >= 0o100000 {
-        match follow(pages, memory, r.wmap, at, r.a, r.b) {
-            Got::Value(v) => at = v,
-            Got::Ends(t) => return stop_by(t, r),
-        }
-    }
+    let (word, words) = match from {
+        Operand::Made(word) => (word, 1),
+        Operand::Next => (r.read(Map::Execute, past(r.p, 1), pages, memory)?, 2),
+    };
+    let at = if word < 0o100000 {
+        word
+    } else {
+        r.follow(word, pages, memory)?
+    };
     at_address(way, at, words, r, pages, memory)
 }
 
 // A word that isn't built: with protection on, 105700 to 105711 are violations.
-fn not_built(w: u16, r: Registers) -> Stepped
+fn not_built(w: u16, r: Registers) -> Result<Registers, Stop>
     ensures { PerformsAlone (cond (protecting r.wmap && privileged w) violating (stop Refusal.NotBuilt)) r result }
 {
     if is_protecting(r.wmap) & is_privileged(w) {
-        return violate(r);
+        return Err(Stop::Violation);
     }
-    refuse(Refusal::NotBuilt, r)
+    Err(Stop::Refused(Refusal::NotBuilt))
 }
 
 // What was asked for is carried out.
-fn perform(action: Action, r: Registers, pages: &[u16], memory: &mut [u16]) -> Stepped
+fn perform(
+    action: Action,
+    r: Registers,
+    pages: &[u16],
+    memory: &mut [u16],
+) -> Result<Registers, Stop>
     ensures { Performs pages.now (act action r) r memory.old result memory.new }
 {
     match action {
         Action::At(way, from) => go_way(way, from, r, pages, memory),
-        Action::ShiftRotate(fields) => completed(shift_rotate(fields, r)),
-        Action::AlterSkip(fields) => completed(alter_skip(fields, r)),
+        Action::ShiftRotate(fields) => Ok(shift_rotate(fields, r)),
+        Action::AlterSkip(fields) => Ok(alter_skip(fields, r)),
         Action::InputOutput(operation, bit11, bit9, select) => {
             input_output(operation, bit11, bit9, select, r)
         }
-        Action::LongShift(kind, places) => completed(long_rotate(kind, places, r)),
-        Action::CopyToIndex(g, i) => completed(copy_to_index(g, i, r)),
-        Action::CopyFromIndex(g, i) => completed(copy_from_index(g, i, r)),
-        Action::Exchange(g, i) => completed(exchange(g, i, r)),
-        Action::CountUp(i) => completed(step_index(i, increment(index(i, r)).word, r)),
-        Action::CountDown(i) => completed(step_index(i, decrement(index(i, r)).word, r)),
+        Action::LongShift(kind, places) => Ok(long_rotate(kind, places, r)),
+        Action::CopyToIndex(g, i) => Ok(copy_to_index(g, i, r)),
+        Action::CopyFromIndex(g, i) => Ok(copy_from_index(g, i, r)),
+        Action::Exchange(g, i) => Ok(exchange(g, i, r)),
+        Action::CountUp(i) => Ok(step_index(i, increment(r.index(i)).word, r)),
+        Action::CountDown(i) => Ok(step_index(i, decrement(r.index(i)).word, r)),
         Action::LoadByte => load_byte(r, pages, memory),
         Action::StoreByte => store_byte(r, pages, memory),
         Action::Move(u) => move_string(u, r, pages, memory),
@@ -87,17 +86,13 @@ fn perform(action: Action, r: Registers, pages: &[u16], memory: &mut [u16]) -> S
 }
 
 // The fetch, through Execute: at P, or at the waiting trap.
-pub fn fetch(r: Registers, pages: &[u16], memory: &mut [u16]) -> Stepped
+pub fn fetch(r: Registers, pages: &[u16], memory: &mut [u16]) -> Result<Registers, Stop>
     ensures { Performs pages.now (step_act r) r memory.old result memory.new }
 {
     if r.trap == 0 {
-        return match read_word(pages, memory, r.wmap, Map::Execute, r.p, r.a, r.b) {
-            Got::Value(word) => perform(action_of(word, r.p), r, pages, memory),
-            Got::Ends(t) => stop_by(t, r),
-        };
+        let word = r.read(Map::Execute, r.p, pages, memory)?;
+        return perform(action_of(word, r.p), r, pages, memory);
     }
-    match read_word(pages, memory, r.wmap, Map::Execute, r.trap, r.a, r.b) {
-        Got::Value(word) => carry_out_trap(word, r, pages, memory),
-        Got::Ends(t) => stop_by(t, r),
-    }
+    let word = r.read(Map::Execute, r.trap, pages, memory)?;
+    carry_out_trap(word, r, pages, memory)
 }
