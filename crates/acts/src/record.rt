@@ -7,9 +7,7 @@ ghost use Rattle.maps.specs.Chains.{chain};
 ghost use Rattle.acts.specs.Record.{in_register, with_register, in_index, with_index, with_p, fresh, valid, interrupted, ahead, words_of, registers_of};
 
 use code::codes::{Index, Register};
-use maps::access::read_word;
-use maps::chains::follow;
-use maps::pages::{Map, is_protecting, switch_maps};
+use maps::pages::{Map, Maps, is_protecting, switch_maps};
 use maps::troubles::Trouble;
 use word::bits::weight_of;
 use word::sums::past;
@@ -172,14 +170,22 @@ impl Registers {
     pub fn read(self, map: Map, at: u16, pages: &[u16], memory: &[u16]) -> Result<u16, Trouble>
         ensures { result ≡ fetched pages.now memory.now self.wmap map at self.a self.b }
     {
-        read_word(pages, memory, self.wmap, map, at, self.a, self.b)
+        let maps = Maps {
+            pages,
+            wmap: self.wmap,
+        };
+        maps.read(map, at, memory, self.a, self.b)
     }
 
     // Where an address word leads.
     pub fn follow(self, word: u16, pages: &[u16], memory: &[u16]) -> Result<u16, Trouble>
         ensures { result ≡ chain pages.now memory.now self.wmap word self.a self.b }
     {
-        follow(pages, memory, self.wmap, word, self.a, self.b)
+        let maps = Maps {
+            pages,
+            wmap: self.wmap,
+        };
+        maps.follow(word, memory, self.a, self.b)
     }
 
     // The record that words are, if they are one.

@@ -4,8 +4,7 @@ ghost use Rattle.acts.specs.Acts.{Performs, save, fin, go_on};
 use crate::record::Registers;
 use crate::replies::Stop;
 use code::codes::Register;
-use maps::access::store_word;
-use maps::pages::{Map, Place};
+use maps::pages::{Map, Maps, Place};
 
 // A word is stored at an address. The registers are then r, but for what the store changes.
 pub fn put_last(
@@ -18,7 +17,11 @@ pub fn put_last(
 ) -> Result<Registers, Stop>
     ensures { Performs pages.now (save map at value (fin (λ q. q))) r memory.old result memory.new }
 {
-    Ok(match store_word(pages, memory, r.wmap, map, at, value)? {
+    let maps = Maps {
+        pages,
+        wmap: r.wmap,
+    };
+    Ok(match maps.store(map, at, value, memory)? {
         Place::A => r.with_register(Register::A, value),
         Place::B => r.with_register(Register::B, value),
         Place::Memory(_) => r,

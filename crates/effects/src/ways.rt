@@ -10,7 +10,7 @@ use acts::record::{Registers, skipping};
 use acts::replies::Stop;
 use acts::stores::put;
 use code::codes::{Index, Register};
-use maps::pages::{Map, Place, Purpose, place_of};
+use maps::pages::{Map, Maps, Place, Purpose};
 use word::products::{Product, Quotient, divide, multiply};
 use word::sums::{Sum, add, increment, past};
 
@@ -216,8 +216,12 @@ pub(crate) fn store_double(
 {
     let length = memory.len();
     let next = past(at, 1);
-    let first = place_of(pages, r.wmap, Map::Execute, Purpose::Store, at, length)?;
-    let second = place_of(pages, r.wmap, Map::Execute, Purpose::Store, next, length)?;
+    let maps = Maps {
+        pages,
+        wmap: r.wmap,
+    };
+    let first = maps.place(Map::Execute, Purpose::Store, at, length)?;
+    let second = maps.place(Map::Execute, Purpose::Store, next, length)?;
     let s = store_at(first, r.a, r.ahead(words), memory);
     Ok(store_at(second, r.b, s, memory))
 }

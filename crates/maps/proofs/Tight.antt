@@ -1,30 +1,30 @@
 -- Each promise fixes its outcome: two outcomes that satisfy a function's own contract, as its `Reads` has it, are equal.
 -- A function that lends nothing to be written has `OneResult` of the word layer. store_word, the only other, has in
--- store_word_tight the later memory beside the result. In the order of src/: pages, access, chains, bytes.
+-- store_tight the later memory beside the result. In the order of src/: pages, access, chains, bytes.
 -- Assumes nothing.
 use borrow.Fn.Kinds.{ended_of, res_t, Dens}
 use denote.Triple.Clauses.{AtExit}
 use contract.Lifetimes.{Lfts}
 use mathlib.Core.Path.{◌≡◌, sym, ◌∙◌}
 use Rattle.word.proofs.Tight.{OneResult}
-use Rattle.maps.proofs.pages.is_register.Kinds as is_register
-use Rattle.maps.proofs.pages.is_register.Reads as is_register_reads
+use Rattle.maps.proofs.pages.Map.is_register.Kinds as is_register
+use Rattle.maps.proofs.pages.Map.is_register.Reads as is_register_reads
 use Rattle.maps.proofs.pages.is_protecting.Kinds as is_protecting
 use Rattle.maps.proofs.pages.is_protecting.Reads as is_protecting_reads
 use Rattle.maps.proofs.pages.switch_maps.Kinds as switch_maps
 use Rattle.maps.proofs.pages.switch_maps.Reads as switch_maps_reads
-use Rattle.maps.proofs.pages.is_open.Kinds as is_open
-use Rattle.maps.proofs.pages.is_open.Reads as is_open_reads
-use Rattle.maps.proofs.pages.presence_of.Kinds as presence_of
-use Rattle.maps.proofs.pages.presence_of.Reads as presence_of_reads
-use Rattle.maps.proofs.pages.place_of.Kinds as place_of
-use Rattle.maps.proofs.pages.place_of.Reads as place_of_reads
-use Rattle.maps.proofs.access.read_word.Kinds as read_word
-use Rattle.maps.proofs.access.read_word.Reads as read_word_reads
-use Rattle.maps.proofs.access.store_word.Kinds as store_word_kinds
-use Rattle.maps.proofs.access.store_word.Reads as store_word_reads
-use Rattle.maps.proofs.chains.follow.Kinds as follow
-use Rattle.maps.proofs.chains.follow.Reads as follow_reads
+use Rattle.maps.proofs.pages.Maps.is_open.Kinds as is_open
+use Rattle.maps.proofs.pages.Maps.is_open.Reads as is_open_reads
+use Rattle.maps.proofs.pages.Maps.presence.Kinds as presence
+use Rattle.maps.proofs.pages.Maps.presence.Reads as presence_reads
+use Rattle.maps.proofs.pages.Maps.place.Kinds as place
+use Rattle.maps.proofs.pages.Maps.place.Reads as place_reads
+use Rattle.maps.proofs.pages.Maps.read.Kinds as read
+use Rattle.maps.proofs.pages.Maps.read.Reads as read_reads
+use Rattle.maps.proofs.pages.Maps.store.Kinds as store_kinds
+use Rattle.maps.proofs.pages.Maps.store.Reads as store_reads
+use Rattle.maps.proofs.pages.Maps.follow.Kinds as follow
+use Rattle.maps.proofs.pages.Maps.follow.Reads as follow_reads
 use Rattle.maps.proofs.bytes.byte_word.Kinds as byte_word
 use Rattle.maps.proofs.bytes.byte_word.Reads as byte_word_reads
 use Rattle.maps.proofs.bytes.is_low_byte.Kinds as is_low_byte
@@ -42,18 +42,18 @@ switch_maps_tight κs a x y s t p q = p ∙ sym q
 pub is_open_tight : OneResult 1 is_open.ps is_open.r is_open_reads.Post
 is_open_tight κs a x y s t p q = p ∙ sym q
 
-pub presence_of_tight : OneResult 1 presence_of.ps presence_of.r presence_of_reads.Post
-presence_of_tight κs a x y s t p q = p ∙ sym q
+pub presence_tight : OneResult 1 presence.ps presence.r presence_reads.Post
+presence_tight κs a x y s t p q = p ∙ sym q
 
-pub place_of_tight : OneResult 1 place_of.ps place_of.r place_of_reads.Post
-place_of_tight κs a x y s t p q = p ∙ sym q
+pub place_tight : OneResult 1 place.ps place.r place_reads.Post
+place_tight κs a x y s t p q = p ∙ sym q
 
-pub read_word_tight : OneResult 2 read_word.ps read_word.r read_word_reads.Post
-read_word_tight κs a x y s t p q = p ∙ sym q
+pub read_tight : OneResult 2 read.ps read.r read_reads.Post
+read_tight κs a x y s t p q = p ∙ sym q
 
-pub store_word_tight : (κs : Lfts 2) (a : Dens κs store_word_kinds.ps) (x y : (res_t store_word_kinds.r κs).Denot) (s t : AtExit (ended_of 2 store_word_kinds.ps store_word_kinds.r) κs)
-    → store_word_reads.Post κs a x s → store_word_reads.Post κs a y t → (x ≡ y) × (s.1.0.now ≡ t.1.0.now)
-store_word_tight κs a x y s t p q = (p.outcome ∙ sym q.outcome, p.memory ∙ sym q.memory)
+pub store_tight : (κs : Lfts 2) (a : Dens κs store_kinds.ps) (x y : (res_t store_kinds.r κs).Denot) (s t : AtExit (ended_of 2 store_kinds.ps store_kinds.r) κs)
+    → store_reads.Post κs a x s → store_reads.Post κs a y t → (x ≡ y) × (s.1.1.1.1.0.now ≡ t.1.1.1.1.0.now)
+store_tight κs a x y s t p q = (p.outcome ∙ sym q.outcome, p.memory ∙ sym q.memory)
 
 pub follow_tight : OneResult 2 follow.ps follow.r follow_reads.Post
 follow_tight κs a x y s t p q = p ∙ sym q

@@ -3,8 +3,7 @@ ghost use Rattle.std.specs.Prelude.{◌≡◌};
 ghost use Rattle.word.specs.Words.{bit};
 ghost use Rattle.maps.specs.Chains.{chain};
 
-use crate::access::read_word;
-use crate::pages::Map;
+use crate::pages::{Map, Maps};
 use crate::troubles::Trouble;
 
 // A chain whose first words, so many, all ask for more never ends.
@@ -16,27 +15,22 @@ fn is_indirect(word: u16) -> bool
     word / 0o100000 % 2 == 1
 }
 
-// Follows an address word: its bit 15 asks for the word that it addresses.
-#[tactic(auto, using(crate::proofs::Accesses::chased_ends, crate::proofs::Accesses::chased_out), unfolding(crate::specs::Chains::chain))]
-pub fn follow(
-    pages: &[u16],
-    memory: &[u16],
-    wmap: u16,
-    word: u16,
-    a: u16,
-    b: u16,
-) -> Result<u16, Trouble>
-    ensures { result ≡ chain pages.now memory.now wmap word a b }
-{
-    let mut last = word;
-    for _ in 0..LEVELS {
-        if !is_indirect(last) {
-            return Ok(last % 0o100000);
+impl<'a> Maps<'a> {
+    // Follows an address word: its bit 15 asks for the word that it addresses.
+    #[tactic(auto, using(crate::proofs::Accesses::chased_ends, crate::proofs::Accesses::chased_out), unfolding(crate::specs::Chains::chain))]
+    pub fn follow(self, word: u16, memory: &[u16], a: u16, b: u16) -> Result<u16, Trouble>
+        ensures { result ≡ chain self.entry.pages.now memory.now self.entry.wmap word a b }
+    {
+        let mut last = word;
+        for _ in 0..LEVELS {
+            if !is_indirect(last) {
+                return Ok(last % 0o100000);
+            }
+            last = self.read(Map::Execute, last, memory, a, b)?;
         }
-        last = read_word(pages, memory, wmap, Map::Execute, last, a, b)?;
+        if is_indirect(last) {
+            return Err(Trouble::Endless);
+        }
+        Ok(last % 0o100000)
     }
-    if is_indirect(last) {
-        return Err(Trouble::Endless);
-    }
-    Ok(last % 0o100000)
 }

@@ -29,26 +29,33 @@ pub enum Place {
     Memory(usize),
 }
 
-fn map_number(wmap: u16, map: Map) -> u16
-    ensures { result ≡ map_number map wmap }
-{
-    match map {
-        Map::Execute => wmap % 32,
-        Map::Data1 => wmap / 32 % 32,
-        Map::Data2 => wmap / 1024 % 32,
-    }
+// Page registers and WMAP: what tells where a logical address leads.
+#[derive(Clone, Copy)]
+pub struct Maps<'a> {
+    pub pages: &'a [u16],
+    pub wmap: u16,
 }
 
-// The page register of an address. One past the lent registers reads as 0.
-fn page_register(pages: &[u16], wmap: u16, map: Map, address: u16) -> u16
-    ensures { result ≡ register_of pages.now wmap map address }
-{
-    let number = map_number(wmap, map) as usize;
-    let at = number * 32 + (address / 1024 % 32) as usize;
-    if at < pages.len() {
-        return pages[at];
+impl Map {
+    fn number(self, wmap: u16) -> u16
+        ensures { result ≡ map_number self wmap }
+    {
+        match self {
+            Map::Execute => wmap % 32,
+            Map::Data1 => wmap / 32 % 32,
+            Map::Data2 => wmap / 1024 % 32,
+        }
     }
-    0
+
+    // Whether an address is A or B: 0 and 1 of the Execute map are, in any other they are memory.
+    pub fn is_register(self, address: u16) -> bool
+        ensures { result ≡ is_register self address }
+    {
+        match self {
+            Map::Execute => address % 32768 < 2,
+            Map::Data1 | Map::Data2 => false,
+        }
+    }
 }
 
 // Whether protection is on.
@@ -65,18 +72,17 @@ pub fn switch_maps(wmap: u16) -> u16
     wmap / 1024 % 32 * 1024 + wmap % 32 * 32
 }
 
-// Whether a page register closes its page to a purpose.
-fn is_closed(wmap: u16, purpose: Purpose, register: u16) -> bool
-    ensures { result ≡ (protecting wmap && closed_to purpose register) }
-{
-    if is_protecting(wmap) {
-        return match purpose {
+impl Purpose {
+    // Whether a page register closes its page to the purpose, with protection on.
+    fn is_closed_by(self, register: u16) -> bool
+        ensures { result ≡ closed_to self register }
+    {
+        match self {
             Purpose::Read => register / 32768 % 2 == 1,
             Purpose::Store => register / 16384 % 2 == 1,
             Purpose::Both => register / 32768 % 2 == 1 || register / 16384 % 2 == 1,
-        };
+        }
     }
-    false
 }
 
 fn index_of(register: u16, address: u16) -> usize
@@ -85,77 +91,71 @@ fn index_of(register: u16, address: u16) -> usize
     (register % 16384) as usize * 1024 + (address % 1024) as usize
 }
 
-// Whether an address is A or B: 0 and 1 of the Execute map are, in any other they are memory.
-pub fn is_register(map: Map, address: u16) -> bool
-    ensures { result ≡ is_register map address }
-{
-    match map {
-        Map::Execute => address % 32768 < 2,
-        Map::Data1 => false,
-        Map::Data2 => false,
-    }
-}
-
-// The test of protection alone.
-#[tactic(auto, unfolding(crate::specs::Pages::is_open))]
-pub fn is_open(pages: &[u16], wmap: u16, map: Map, purpose: Purpose, address: u16) -> bool
-    ensures { result ≡ is_open pages.now wmap map purpose address }
-{
-    if is_register(map, address) {
-        return true;
-    }
-    let register = page_register(pages, wmap, map, address);
-    !is_closed(wmap, purpose, register)
-}
-
-// The test of presence alone, for a memory of `length` words.
-#[tactic(auto, unfolding(crate::specs::Pages::presence))]
-pub fn presence_of(
-    pages: &[u16],
-    wmap: u16,
-    map: Map,
-    address: u16,
-    length: usize,
-) -> Result<(), Trouble>
-    ensures { result ≡ presence pages.now wmap map address length }
-{
-    if is_register(map, address) {
-        return Ok(());
-    }
-    let register = page_register(pages, wmap, map, address);
-    if index_of(register, address) < length {
-        return Ok(());
-    }
-    Err(Trouble::Absent(register % 16384))
-}
-
-// Where an access ends: protection is tested before presence.
-#[tactic(auto, unfolding(crate::specs::Pages::place, crate::specs::Pages::is_open, crate::specs::Pages::presence, crate::specs::Pages::spot))]
-pub fn place_of(
-    pages: &[u16],
-    wmap: u16,
-    map: Map,
-    purpose: Purpose,
-    address: u16,
-    length: usize,
-) -> Result<Place, Trouble>
-    ensures { result ≡ place pages.now wmap map purpose address length }
-{
-    if is_register(map, address) {
-        if address % 32768 == 0 {
-            return Ok(Place::A);
+impl<'a> Maps<'a> {
+    // The page register of an address. One past the lent registers reads as 0.
+    fn register(self, map: Map, address: u16) -> u16
+        ensures { result ≡ register_of self.entry.pages.now self.entry.wmap map address }
+    {
+        let at = map.number(self.wmap) as usize * 32 + (address / 1024 % 32) as usize;
+        if at < self.pages.len() {
+            return self.pages[at];
         }
-        return Ok(Place::B);
+        0
     }
-    let register = page_register(pages, wmap, map, address);
-    let closed = is_closed(wmap, purpose, register);
-    let index = index_of(register, address);
-    let page = register % 16384;
-    if closed {
-        return Err(Trouble::Closed);
+
+    // The test of protection alone.
+    #[tactic(auto, unfolding(crate::specs::Pages::is_open))]
+    pub fn is_open(self, map: Map, purpose: Purpose, address: u16) -> bool
+        ensures { result ≡ is_open self.entry.pages.now self.entry.wmap map purpose address }
+    {
+        if map.is_register(address) {
+            return true;
+        }
+        let register = self.register(map, address);
+        !(is_protecting(self.wmap) && purpose.is_closed_by(register))
     }
-    if index < length {
-        return Ok(Place::Memory(index));
+
+    // The test of presence alone, for a memory of `length` words.
+    #[tactic(auto, unfolding(crate::specs::Pages::presence))]
+    pub fn presence(self, map: Map, address: u16, length: usize) -> Result<(), Trouble>
+        ensures { result ≡ presence self.entry.pages.now self.entry.wmap map address length }
+    {
+        if map.is_register(address) {
+            return Ok(());
+        }
+        let register = self.register(map, address);
+        if index_of(register, address) < length {
+            return Ok(());
+        }
+        Err(Trouble::Absent(register % 16384))
     }
-    Err(Trouble::Absent(page))
+
+    // Where an access ends: protection is tested before presence.
+    #[tactic(auto, unfolding(crate::specs::Pages::place, crate::specs::Pages::is_open, crate::specs::Pages::presence, crate::specs::Pages::spot))]
+    pub fn place(
+        self,
+        map: Map,
+        purpose: Purpose,
+        address: u16,
+        length: usize,
+    ) -> Result<Place, Trouble>
+        ensures { result ≡ place self.entry.pages.now self.entry.wmap map purpose address length }
+    {
+        if map.is_register(address) {
+            if address % 32768 == 0 {
+                return Ok(Place::A);
+            }
+            return Ok(Place::B);
+        }
+        let register = self.register(map, address);
+        let index = index_of(register, address);
+        let page = register % 16384;
+        if is_protecting(self.wmap) && purpose.is_closed_by(register) {
+            return Err(Trouble::Closed);
+        }
+        if index < length {
+            return Ok(Place::Memory(index));
+        }
+        Err(Trouble::Absent(page))
+    }
 }

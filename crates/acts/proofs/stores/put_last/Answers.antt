@@ -6,18 +6,18 @@ use Rattle.acts.proofs.stores.put_last.Goals as goal
 
 pub returns-in-A : goal.returns-in-A
 unfolding exec
-returns-in-A c = rw (c.store_word.ensures.memory, ← c.store_word.ensures.outcome, c.in_ok-store_word.was, c.in-A.is, c.with_register.ensures) (record { outcome = refl; memory = refl })
+returns-in-A c = rw (c.store.ensures.memory, ← c.store.ensures.outcome, c.in_ok-store.was, c.in-A.is, c.with_register.ensures) (record { outcome = refl; memory = refl })
 
 pub returns-in-B : goal.returns-in-B
 unfolding exec
-returns-in-B c = rw (c.store_word.ensures.memory, ← c.store_word.ensures.outcome, c.in_ok-store_word.was, c.in-B.is, c.with_register-in-B.ensures) (record { outcome = refl; memory = refl })
+returns-in-B c = rw (c.store.ensures.memory, ← c.store.ensures.outcome, c.in_ok-store.was, c.in-B.is, c.with_register-in-B.ensures) (record { outcome = refl; memory = refl })
 
 pub returns-in-Memory : goal.returns-in-Memory
 unfolding exec
-returns-in-Memory c = rw (c.store_word.ensures.memory, ← c.store_word.ensures.outcome, c.in_ok-store_word.was, c.in-Memory.is) (record { outcome = refl; memory = refl })
+returns-in-Memory c = rw (c.store.ensures.memory, ← c.store.ensures.outcome, c.in_ok-store.was, c.in-Memory.is) (record { outcome = refl; memory = refl })
 
-pub returns-in_err-store_word : goal.returns-in_err-store_word
+pub returns-in_err-store : goal.returns-in_err-store
 unfolding exec
-returns-in_err-store_word c =
-    rw (c.store_word.ensures.memory, ← c.store_word.ensures.outcome, c.in_err-store_word.was)
-    (stopping c.in_err-store_word.field-0.0 (by_question _ _ c.from_residual.ensures.1))
+returns-in_err-store c =
+    rw (c.store.ensures.memory, ← c.store.ensures.outcome, c.in_err-store.was)
+    (stopping c.in_err-store.field-0.0 (by_question _ _ c.from_residual.ensures.1))
