@@ -8,6 +8,9 @@
 use mathlib.Core.Path.{◌≡◌, refl, ◌∙◌, sym, ap}
 use mathlib.Core.Logic.{⊎_elim}
 use mathlib.Core.List.{List}
+use mathlib.Core.Bool.{Bool, true, false}
+use Rattle.std.specs.Int.{from_bool}
+use Rattle.word.specs.Words.{weight}
 use Prim.Native.Nat.{ℕ, zero-le, zero, suc, ◌+◌, ◌*◌, ◌/◌, ◌-◌, ◌≤◌, ◌<◌}
 use native.Mathlib.Omega.{arith}
 use native.Mathlib.Nat.{add-zero, add-suc, eq-or-lt_of_le}
@@ -140,6 +143,15 @@ io_small Mia = omega arith
 io_small Lia = omega arith
 io_small Ota = omega arith
 io_small Control = omega arith
+
+-- a flag, as `u16::from` gives it
+pub flag_weight : (b : Bool) → from_bool b ≡ weight b
+flag_weight true = refl
+flag_weight false = refl
+
+pub flag_small : (b : Bool) → from_bool b < 2
+flag_small true = omega arith
+flag_small false = omega arith
 
 -- The last choice, at k, is the default as well.
 pub last_choice :
