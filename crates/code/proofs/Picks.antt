@@ -5,15 +5,15 @@
 --     last_choice   a number past the last choice gives the last
 --     flag_weight, flag_small    the number that `u16::from` gives a flag
 -- Assumes nothing.
-use mathlib.Core.Path.{◌≡◌, refl, ◌∙◌, sym, ap}
+use mathlib.Core.Path.{◌≡◌, refl, sym}
 use mathlib.Core.Logic.{⊎_elim}
 use mathlib.Core.List.{List}
 use mathlib.Core.Bool.{Bool, true, false}
 use Rattle.std.specs.Int.{from_bool}
 use Rattle.word.specs.Words.{weight}
-use Prim.Native.Nat.{ℕ, zero-le, zero, suc, ◌+◌, ◌*◌, ◌/◌, ◌-◌, ◌≤◌, ◌<◌}
+use Prim.Native.Nat.{ℕ, suc, ◌+◌, ◌*◌, ◌/◌, ◌-◌, ◌≤◌, ◌<◌}
 use native.Mathlib.Omega.{arith}
-use native.Mathlib.Nat.{add-zero, add-suc, eq-or-lt_of_le}
+use native.Mathlib.Nat.{eq-or-lt_of_le}
 use borrow.Author.Tests.{eqb-true}
 use lib.Dec.{eqb}
 use lib.ListN.{length, get_or, get_or-eq_default}
@@ -29,7 +29,7 @@ use Rattle.code.specs.declared.instructions.IoOperation.{IoOperation}
 use Rattle.code.specs.declared.instructions.IoOperation.TheVariants.{Hlt, Flag, Sfc, Sfs, Mia, Lia, Ota, Control}
 use Rattle.code.specs.Instructions.{operation_code, operation_at, register_flag, register_at, shift_number, shift_at}
 use Rattle.code.specs.Instructions.{alter_number, alter_at, io_number, io_at}
-use Rattle.code.proofs.Digits.{under, Passed, last_arm}
+use Rattle.code.proofs.Digits.{under}
 
 pub operation_back : (o : Operation) → operation_at (operation_code o / 0o4000) ≡ o
 operation_back And = refl

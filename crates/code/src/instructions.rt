@@ -117,17 +117,14 @@ fn read_memory_reference(word: u16) -> Instruction
 pub fn shift_rotate_of(word: u16) -> ShiftRotate
     ensures { result ≡ shift_fields word }
 {
-    let register = register_at(word / 0o4000 % 2);
-    let shift1 = shift_at(word / 0o100 % 8);
-    let shift2 = shift_at(word % 8);
     ShiftRotate {
-        register,
+        register: register_at(word / 0o4000 % 2),
         enabled1: word / 0o1000 % 2 == 1,
-        shift1,
+        shift1: shift_at(word / 0o100 % 8),
         cle: word / 0o40 % 2 == 1,
         sla: word / 0o10 % 2 == 1,
         enabled2: word / 0o20 % 2 == 1,
-        shift2,
+        shift2: shift_at(word % 8),
     }
 }
 
@@ -142,14 +139,11 @@ fn read_shift_rotate(word: u16) -> Instruction
 pub fn alter_skip_of(word: u16) -> AlterSkip
     ensures { result ≡ alter_fields word }
 {
-    let register = register_at(word / 0o4000 % 2);
-    let alter = alter_at(word / 0o400 % 4);
-    let extend = alter_at(word / 0o100 % 4);
     AlterSkip {
-        register,
-        alter,
+        register: register_at(word / 0o4000 % 2),
+        alter: alter_at(word / 0o400 % 4),
         sez: word / 0o40 % 2 == 1,
-        extend,
+        extend: alter_at(word / 0o100 % 4),
         ssa: word / 0o20 % 2 == 1,
         sla: word / 0o10 % 2 == 1,
         ina: word / 0o4 % 2 == 1,
@@ -245,17 +239,14 @@ fn write_memory_reference(
 fn write_shift_rotate(s: ShiftRotate) -> Option<u16>
     ensures { result ≡ write_shift_rotate s }
 {
-    let register = s.register;
-    let shift1 = s.shift1;
-    let shift2 = s.shift2;
     Some(
-        u16::from(register) * 0o4000
+        u16::from(s.register) * 0o4000
             + u16::from(s.enabled1) * 0o1000
-            + shift_number(shift1) * 0o100
+            + shift_number(s.shift1) * 0o100
             + u16::from(s.cle) * 0o40
             + u16::from(s.enabled2) * 0o20
             + u16::from(s.sla) * 0o10
-            + shift_number(shift2),
+            + shift_number(s.shift2),
     )
 }
 
@@ -263,14 +254,11 @@ fn write_shift_rotate(s: ShiftRotate) -> Option<u16>
 fn write_alter_skip(s: AlterSkip) -> Option<u16>
     ensures { result ≡ write_alter_skip s }
 {
-    let register = s.register;
-    let alter = s.alter;
-    let extend = s.extend;
     Some(
         0o2000
-            + u16::from(register) * 0o4000
-            + u16::from(alter) * 0o400
-            + u16::from(extend) * 0o100
+            + u16::from(s.register) * 0o4000
+            + u16::from(s.alter) * 0o400
+            + u16::from(s.extend) * 0o100
             + u16::from(s.sez) * 0o40
             + u16::from(s.ssa) * 0o20
             + u16::from(s.sla) * 0o10
