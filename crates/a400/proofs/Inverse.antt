@@ -17,11 +17,10 @@ use lib.ListN.{get_or}
 use Rattle.word.specs.Words.{weight}
 use Rattle.word.specs.declared.long.LongShift.{LongShift}
 use Rattle.word.specs.declared.long.LongShift.TheVariants.{Asl, Lsl, Rrl, Asr, Lsr, Rrr}
+use Rattle.std.specs.Prelude.{Option, Some, None}
 use Rattle.code.specs.declared.codes.Extended as of_extended
 use Rattle.code.specs.declared.instructions.Instruction.{Instruction}
 use Rattle.code.specs.declared.instructions.Instruction.TheVariants.{MemoryReference, ShiftRotate, AlterSkip, InputOutput, LongShift as Shift, Extended, NotBuilt}
-use Rattle.code.specs.declared.instructions.Written.{Written}
-use Rattle.code.specs.declared.instructions.Written.TheVariants.{Word, NoWord}
 use Rattle.code.specs.Instructions.{reading, writing, built, word_of}
 use Rattle.code.proofs.Picks.{operation_back, register_back, shift_back, alter_back, io_back}
 use Rattle.code.proofs.Rows.{unbuilt}
@@ -42,7 +41,7 @@ flag_back : (b : Bool) → eqb (weight b) 1 ≡ b
 flag_back true = refl
 flag_back false = refl
 
-pub instruction_back : (i : Instruction) (w : ℕ) → writing i ≡ Word w → instruction_at (fields_of i) ≡ i
+pub instruction_back : (i : Instruction) (w : ℕ) → writing i ≡ Some w → instruction_at (fields_of i) ≡ i
 unfolding instruction_at
 instruction_back (MemoryReference o indirect current offset) w h = rw (operation_back o, flag_back indirect, flag_back current) refl
 instruction_back (ShiftRotate s) w h =
@@ -70,26 +69,26 @@ pub exact_word : (w : ℕ) (e : of_extended.Extended) → w < 0o200000 → readi
 exact_word w e h r = rw r (ap word_of (ap writing (sym r) ∙ exact.read_then_write w h))
 
 -- Where fields have a word, that word has 16 bits and reads as these fields.
-pub is_word : (f : List ℕ) (w : ℕ) → writing_fields f ≡ Word w → w < 0o200000
+pub is_word : (f : List ℕ) (w : ℕ) → writing_fields f ≡ Some w → w < 0o200000
 unfolding writing_fields
 is_word f w h = (below_reads f 0o200000 w h).0
 
-pub write_then_read : (f : List ℕ) (w : ℕ) → writing_fields f ≡ Word w → fields_of (reading w) ≡ f
+pub write_then_read : (f : List ℕ) (w : ℕ) → writing_fields f ≡ Some w → fields_of (reading w) ≡ f
 unfolding writing_fields
 write_then_read f w h = (below_reads f 0o200000 w h).1
 
 -- Where fields have no word, no word reads as them.
-pub no_word_reads : (f : List ℕ) → writing_fields f ≡ NoWord → (w : ℕ) → w < 0o200000 → fields_of (reading w) ≡ f → ⊥
+pub no_word_reads : (f : List ℕ) → writing_fields f ≡ None → (w : ℕ) → w < 0o200000 → fields_of (reading w) ≡ f → ⊥
 unfolding writing_fields
 no_word_reads f h w b e = below_none f 0o200000 h w b e
 
 -- Every word of 16 bits is written again from the fields that it reads as.
-pub read_then_write : (w : ℕ) → w < 0o200000 → writing_fields (fields_of (reading w)) ≡ Word w
+pub read_then_write : (w : ℕ) → w < 0o200000 → writing_fields (fields_of (reading w)) ≡ Some w
 read_then_write w h = go (writing_fields f) refl
   where
     f : List ℕ
     f = fields_of (reading w)
 
-    go : (a : Written) → writing_fields f ≡ a → writing_fields f ≡ Word w
-    go (Word v) e = e ∙ ap Word (one_word v w (is_word f v e) h (write_then_read f v e))
-    go NoWord e = absurd (no_word_reads f e w h refl)
+    go : (a : Option ℕ) → writing_fields f ≡ a → writing_fields f ≡ Some w
+    go (Some v) e = e ∙ ap Some (one_word v w (is_word f v e) h (write_then_read f v e))
+    go None e = absurd (no_word_reads f e w h refl)

@@ -1,7 +1,6 @@
 -- Laws of the C interface that belong to no one function.
 --     Records     a step that is refused leaves the words as given
 --     Answering   a call put together from what the machine promises
---     Sameness    when two lists hold the same words
 --     WordSearch  the search for the word that reads as fields
 --     Inverse     reading and writing fields are inverse
 --     Writes      the writer of fields, put together from its parts
@@ -9,7 +8,6 @@
 -- Assumes nothing.
 pub mod Records
 pub mod Answering
-pub mod Sameness
 pub mod WordSearch
 pub mod Inverse
 pub mod Writes

@@ -11,42 +11,42 @@ use mathlib.Core.Bool.{Bool, true, false}
 use mathlib.Core.List.{List}
 use lib.Dec.{eqb}
 use borrow.Author.Tests.{eqb-true, eqb-false}
-use Rattle.code.specs.declared.instructions.Written.TheVariants.{Word, NoWord}
+use Rattle.std.proofs.lemmas.Slice.Eq.{bytes_eq-Decides}
+use Rattle.std.specs.Prelude.{Some, None}
 use Rattle.code.specs.Instructions.{reading, word_of}
 use Rattle.code.proofs.Truth.{never}
 use Rattle.a400.specs.Fields.{fields_of, same_words, word_below}
-use Rattle.a400.proofs.Sameness.{same_self, same_true}
 
 module _ (f : List ℕ) where
-  pub below_reads : (n v : ℕ) → word_below n f ≡ Word v → (v < n) × (fields_of (reading v) ≡ f)
+  pub below_reads : (n v : ℕ) → word_below n f ≡ Some v → (v < n) × (fields_of (reading v) ≡ f)
   unfolding word_below
-  below_reads zero v h = absurd (let z : ◌≡◌ {A = ℕ} 0 1 = cc in omega arith)
+  below_reads zero v h = cc
   below_reads (suc n) v h = go (same_words f (fields_of (reading n))) refl (below_reads n v)
     where
       go : (b : Bool) → same_words f (fields_of (reading n)) ≡ b
-          → (word_below n f ≡ Word v → (v < n) × (fields_of (reading v) ≡ f))
+          → (word_below n f ≡ Some v → (v < n) × (fields_of (reading v) ≡ f))
           → (v < suc n) × (fields_of (reading v) ≡ f)
       go true s next =
           let e : n ≡ v = ap word_of (rw s at h) in
-          (omega arith, ap (λ (w : ℕ). fields_of (reading w)) (sym e) ∙ sym (same_true f (fields_of (reading n)) s))
+          (omega arith, ap (λ (w : ℕ). fields_of (reading w)) (sym e) ∙ sym ((bytes_eq-Decides f (fields_of (reading n))).0 s))
       go false s next =
           let r = next (rw s at h) in
           (omega (arith, r.0), r.1)
 
-  pub below_none : (n : ℕ) → word_below n f ≡ NoWord → (w : ℕ) → w < n → fields_of (reading w) ≡ f → ⊥
+  pub below_none : (n : ℕ) → word_below n f ≡ None → (w : ℕ) → w < n → fields_of (reading w) ≡ f → ⊥
   unfolding word_below
   below_none zero h w l e = not-suc-le-zero l
   below_none (suc n) h w l e = go (same_words f (fields_of (reading n))) (eqb w n) refl refl (below_none n)
     where
       go : (b c : Bool) → same_words f (fields_of (reading n)) ≡ b → eqb w n ≡ c
-          → (word_below n f ≡ NoWord → (w : ℕ) → w < n → fields_of (reading w) ≡ f → ⊥) → ⊥
+          → (word_below n f ≡ None → (w : ℕ) → w < n → fields_of (reading w) ≡ f → ⊥) → ⊥
       go true c s t next =
-          let k : Word n ≡ NoWord = rw s at h in
-          let z : ◌≡◌ {A = ℕ} 0 1 = cc in omega arith
+          let k : Some n ≡ None = rw s at h in
+          cc
       go false true s t next =
           let m : w ≡ n = eqb-true w n t in
           let r : fields_of (reading n) ≡ f = rw m at e in
-          never (sym (same_self f) ∙ (rw r at s))
+          never (sym ((bytes_eq-Decides f f).1 refl) ∙ (rw r at s))
       go false false s t next =
           let m = eqb-false w n t in
           next (rw s at h) w (omega arith) e

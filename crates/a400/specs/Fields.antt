@@ -7,14 +7,12 @@
 --     read_call, write_call         the two calls
 -- What a word reads as is `reading`, of `code`. That no two words read as the same fields is in proofs/Inverse.antt.
 -- Assumes nothing.
-use Rattle.std.specs.Prelude.{ℕ, zero, suc, ◌/◌, Bool, true, false, cond, ◌&&◌, List, [], ◌∷◌, eqb, length}
+use Rattle.std.specs.Prelude.{ℕ, zero, suc, ◌/◌, Bool, cond, ◌&&◌, List, [], ◌∷◌, Option, Some, None, eqb, length, bytes_eq}
 use Rattle.word.specs.Words.{weight}
 use Rattle.word.specs.declared.long.LongShift.{LongShift}
 use Rattle.word.specs.declared.long.LongShift.TheVariants.{Asl, Lsl, Rrl, Asr, Lsr, Rrr}
 use Rattle.code.specs.declared.instructions.Instruction.{Instruction}
 use Rattle.code.specs.declared.instructions.Instruction.TheVariants.{MemoryReference, ShiftRotate, AlterSkip, InputOutput, LongShift as Shift, Extended, NotBuilt}
-use Rattle.code.specs.declared.instructions.Written.{Written}
-use Rattle.code.specs.declared.instructions.Written.TheVariants.{Word, NoWord}
 use Rattle.code.specs.Instructions.{operation_code, register_flag, shift_number, alter_number, io_number, reading, writing, word_of}
 use Rattle.acts.specs.Replies.{number}
 use Rattle.acts.specs.declared.replies.Reply.{Reply}
@@ -44,27 +42,24 @@ fields_of (Shift s places) = 4 ∷ long_kind s ∷ places ∷ 0 ∷ 0 ∷ 0 ∷ 
 fields_of (Extended e) = 5 ∷ word_of (writing (Extended e)) ∷ 0 ∷ 0 ∷ 0 ∷ 0 ∷ 0 ∷ 0 ∷ 0 ∷ 0 ∷ []
 fields_of (NotBuilt w) = 6 ∷ w ∷ 0 ∷ 0 ∷ 0 ∷ 0 ∷ 0 ∷ 0 ∷ 0 ∷ 0 ∷ []
 
-unfoldable pub same_words : List ℕ → List ℕ → Bool
-same_words [] [] = true
-same_words [] (y ∷ ys) = false
-same_words (x ∷ xs) [] = false
-same_words (x ∷ xs) (y ∷ ys) = eqb x y && same_words xs ys
+abbrev pub same_words : List ℕ → List ℕ → Bool
+same_words = bytes_eq
 
 -- the word below n that reads as these fields, or none
-unfoldable pub word_below : ℕ → List ℕ → Written
-word_below zero f = NoWord
-word_below (suc n) f = cond (same_words f (fields_of (reading n))) (Word n) (word_below n f)
+unfoldable pub word_below : ℕ → List ℕ → Option ℕ
+word_below zero f = None
+word_below (suc n) f = cond (same_words f (fields_of (reading n))) (Some n) (word_below n f)
 
-unfoldable pub writing_fields : List ℕ → Written
+unfoldable pub writing_fields : List ℕ → Option ℕ
 writing_fields f = word_below 0o200000 f
 
 unfoldable pub read_call : ℕ → List ℕ → Answered
 read_call w f = cond (eqb (length f) 10) (answered (number Reply.Completed) (fields_of (reading w))) (answered (number Reply.BadCall) f)
 
 -- 01, reply 9: "no word reads as this instruction", "word 0"
-abbrev pub number_written : Written → ℕ
-number_written (Word v) = number Reply.Completed
-number_written NoWord = 9
+abbrev pub number_written : Option ℕ → ℕ
+number_written (Some v) = number Reply.Completed
+number_written None = 9
 
 unfoldable pub write_call : List ℕ → List ℕ → Answered
 write_call f w =

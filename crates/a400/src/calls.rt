@@ -8,6 +8,7 @@ use acts::replies::number_of;
 use machine::run::run;
 
 #[unsafe(no_mangle)]
+#[tactic(auto, unfolding(crate::specs::Calls::fresh_call))]
 pub extern "C" fn a400_fresh(words: &mut [u16]) -> u32
     ensures { Answers (fresh_call words.old) result words.new }
 {

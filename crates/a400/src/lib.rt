@@ -3,4 +3,3 @@
 pub mod calls;
 pub mod fields;
 pub mod record;
-mod words;

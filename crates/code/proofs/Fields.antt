@@ -12,13 +12,14 @@ use native.Mathlib.Nat.{div-add-mod', div-one}
 use borrow.Author.Tests.{eqb-true, le-ltb, le-leb, lt-leb, ltb-false}
 use lib.Dec.{eqb, ltb}
 use Rattle.std.specs.Prelude.{Some, None}
+use Rattle.word.specs.Words.{weight}
 use Rattle.code.specs.declared.instructions.Operation.{Operation}
 use Rattle.code.specs.declared.instructions.IoOperation.{IoOperation}
 use Rattle.code.specs.declared.instructions.ShiftRotate as of_shift_rotate
 use Rattle.code.specs.declared.instructions.AlterSkip as of_alter_skip
 use Rattle.code.specs.declared.instructions.Instruction.{Instruction}
 use Rattle.code.specs.declared.instructions.Instruction.TheVariants.{MemoryReference, ShiftRotate, AlterSkip, InputOutput}
-use Rattle.code.specs.Instructions.{flag, operation_code, register_flag, shift_number, alter_number, io_number, word_of}
+use Rattle.code.specs.Instructions.{operation_code, register_flag, shift_number, alter_number, io_number, word_of}
 use Rattle.code.specs.Instructions.{memory_reference, shift_rotate, alter_skip, input_output, extended, reading, writing}
 use Rattle.code.specs.Instructions.{write_memory_reference, write_shift_rotate, write_alter_skip, write_input_output}
 use Rattle.code.proofs.Digits.{split, under, digit, low}
@@ -26,8 +27,8 @@ use Rattle.code.proofs.Picks.{operation_range, register_small, shift_small, alte
 use Rattle.code.proofs.Picks.{operation_back, register_back, shift_back, alter_back, io_back}
 use Rattle.code.proofs.Picks.{operation_code_lem, register_number, shift_number_lem, alter_number_lem, io_number_lem}
 
-flag_bit : (n : ℕ) → n < 2 → flag (eqb n 1) ≡ n
-flag_bit n h = eqb-true (flag (eqb n 1)) n (under (λ i. eqb (flag (eqb i 1)) i) 2 tt n h)
+flag_bit : (n : ℕ) → n < 2 → weight (eqb n 1) ≡ n
+flag_bit n h = eqb-true (weight (eqb n 1)) n (under (λ i. eqb (weight (eqb i 1)) i) 2 tt n h)
 
 -- A word from its digits: each equation takes one digit off, from the low end; the last gives what the leading bits leave.
 seven :
@@ -51,7 +52,7 @@ four p q r s t e₁ e₂ e₃ e₄ e₅ e₆ e₇ = omega arith
 
 module _ (w : ℕ) (fits : w < 0o200000) where
   -- bit k of the word, by its weight
-  bit_is : (m : ℕ) → flag (eqb (w / m % 2) 1) ≡ w / m % 2
+  bit_is : (m : ℕ) → weight (eqb (w / m % 2) 1) ≡ w / m % 2
   bit_is m = flag_bit (w / m % 2) (omega arith)
 
   pub memory_again : 2 ≤ w / 0o4000 % 16 → writing (memory_reference w) ≡ Some w
@@ -114,11 +115,11 @@ module _ (w : ℕ) (fits : w < 0o200000) where
 
 -- Reading again.
 
-bit_flag : (b : Bool) → eqb (flag b) 1 ≡ b
+bit_flag : (b : Bool) → eqb (weight b) 1 ≡ b
 bit_flag true = refl
 bit_flag false = refl
 
-flag_small : (b : Bool) → flag b < 2
+flag_small : (b : Bool) → weight b < 2
 flag_small true = omega arith
 flag_small false = omega arith
 
@@ -159,15 +160,15 @@ memory_read o i c n w e = go (ltb 0o1777 n) refl (operation_range o) (flag_small
     go :
         (b : Bool) → ltb 0o1777 n ≡ b →
         (2 ≤ operation_code o / 0o4000) × (operation_code o / 0o4000 < 16) × (operation_code o / 0o4000 * 0o4000 ≡ operation_code o) →
-        flag i < 2 → flag c < 2 → Reads w (MemoryReference o i c n)
+        weight i < 2 → weight c < 2 → Reads w (MemoryReference o i c n)
     go true h r fi fc = absurd (no_word (rw h at e))
     go false h r fi fc =
-        let s : flag i * 0o100000 + operation_code o + flag c * 0o2000 + n ≡ w = ap word_of (rw h at e) in
+        let s : weight i * 0o100000 + operation_code o + weight c * 0o2000 + n ≡ w = ap word_of (rw h at e) in
         let l : n ≤ 0o1777 = ltb-false 0o1777 n h in
         let b : w < 0o200000 = omega arith in
         let f₁ : w / 0o4000 % 16 ≡ operation_code o / 0o4000 = omega arith in
-        let f₂ : w / 0o100000 % 2 ≡ flag i = omega arith in
-        let f₃ : w / 0o2000 % 2 ≡ flag c = omega arith in
+        let f₂ : w / 0o100000 % 2 ≡ weight i = omega arith in
+        let f₃ : w / 0o2000 % 2 ≡ weight c = omega arith in
         let f₄ : w % 0o2000 ≡ n = omega arith in (
           b,
           is_memory w (rw f₁ r.0) ∙ rw (f₁, f₂, f₃, f₄, operation_back o, bit_flag i, bit_flag c),
@@ -176,14 +177,14 @@ memory_read o i c n w e = go (ltb 0o1777 n) refl (operation_range o) (flag_small
 pub shift_read : (s : of_shift_rotate.ShiftRotate) (w : ℕ) → write_shift_rotate s ≡ Some w → Reads w (ShiftRotate s)
 unfolding write_shift_rotate shift_rotate
 shift_read s w e =
-    go (register_flag s.register) (flag s.enabled1) (shift_number s.shift1) (flag s.cle) (flag s.enabled2) (flag s.sla)
+    go (register_flag s.register) (weight s.enabled1) (shift_number s.shift1) (weight s.cle) (weight s.enabled2) (weight s.sla)
     (shift_number s.shift2) (ap word_of e) refl refl refl refl refl refl refl (register_small s.register) (flag_small s.enabled1)
     (shift_small s.shift1) (flag_small s.cle) (flag_small s.enabled2) (flag_small s.sla) (shift_small s.shift2)
   where
     go :
         (r a p c d l q : ℕ) → r * 0o4000 + a * 0o1000 + p * 0o100 + c * 0o40 + d * 0o20 + l * 0o10 + q ≡ w →
-        register_flag s.register ≡ r → flag s.enabled1 ≡ a → shift_number s.shift1 ≡ p → flag s.cle ≡ c →
-        flag s.enabled2 ≡ d → flag s.sla ≡ l → shift_number s.shift2 ≡ q →
+        register_flag s.register ≡ r → weight s.enabled1 ≡ a → shift_number s.shift1 ≡ p → weight s.cle ≡ c →
+        weight s.enabled2 ≡ d → weight s.sla ≡ l → shift_number s.shift2 ≡ q →
         r < 2 → a < 2 → p < 8 → c < 2 → d < 2 → l < 2 → q < 8 → Reads w (ShiftRotate s)
     go r a p c d l q sum er ea ep ec ed el eq lr la lp lc ld ll lq = (
       omega arith,
@@ -218,14 +219,14 @@ shift_read s w e =
 pub alter_read : (f : of_alter_skip.AlterSkip) (w : ℕ) → write_alter_skip f ≡ Some w → Reads w (AlterSkip f)
 unfolding write_alter_skip alter_skip
 alter_read f w e =
-    go (register_flag f.register) (alter_number f.alter) (alter_number f.extend) (flag f.sez) (flag f.ssa) (flag f.sla) (flag f.ina) (flag f.sza) (flag f.rss)
+    go (register_flag f.register) (alter_number f.alter) (alter_number f.extend) (weight f.sez) (weight f.ssa) (weight f.sla) (weight f.ina) (weight f.sza) (weight f.rss)
     (ap word_of e) refl refl refl refl refl refl refl refl refl
     (register_small f.register) (alter_small f.alter) (alter_small f.extend) (flag_small f.sez) (flag_small f.ssa) (flag_small f.sla) (flag_small f.ina) (flag_small f.sza) (flag_small f.rss)
   where
     go :
         (z x v u t s r q p : ℕ) →
         0o2000 + z * 0o4000 + x * 0o400 + v * 0o100 + u * 0o40 + t * 0o20 + s * 0o10 + r * 0o4 + q * 0o2 + p ≡ w →
-        register_flag f.register ≡ z → alter_number f.alter ≡ x → alter_number f.extend ≡ v → flag f.sez ≡ u → flag f.ssa ≡ t → flag f.sla ≡ s → flag f.ina ≡ r → flag f.sza ≡ q → flag f.rss ≡ p →
+        register_flag f.register ≡ z → alter_number f.alter ≡ x → alter_number f.extend ≡ v → weight f.sez ≡ u → weight f.ssa ≡ t → weight f.sla ≡ s → weight f.ina ≡ r → weight f.sza ≡ q → weight f.rss ≡ p →
         z < 2 → x < 4 → v < 4 → u < 2 → t < 2 → s < 2 → r < 2 → q < 2 → p < 2 → Reads w (AlterSkip f)
     go z x v u t s r q p sum ez ex ev eu et es er eq ep lz lx lv lu lt ls lr lq lp = (
       omega arith,
@@ -269,10 +270,10 @@ pub io_read :
     (o : IoOperation) (i c : Bool) (n w : ℕ) → write_input_output o i c n ≡ Some w → Reads w (InputOutput o i c n)
 unfolding write_input_output input_output
 io_read o i c n w e =
-    go (ltb 0o77 n) refl (flag i) (flag c) (io_number o) refl refl refl (flag_small i) (flag_small c) (io_small o)
+    go (ltb 0o77 n) refl (weight i) (weight c) (io_number o) refl refl refl (flag_small i) (flag_small c) (io_small o)
   where
     go :
-        (k : Bool) → ltb 0o77 n ≡ k → (a b d : ℕ) → flag i ≡ a → flag c ≡ b → io_number o ≡ d → a < 2 → b < 2 → d < 8 →
+        (k : Bool) → ltb 0o77 n ≡ k → (a b d : ℕ) → weight i ≡ a → weight c ≡ b → io_number o ≡ d → a < 2 → b < 2 → d < 8 →
         Reads w (InputOutput o i c n)
     go true h a b d ea eb ed la lb ld = absurd (no_word (rw h at e))
     go false h a b d ea eb ed la lb ld =

@@ -3,14 +3,17 @@
 --     operation_code_lem, register_number, shift_number_lem, alter_number_lem, io_number_lem    the number of a number's choice
 --     operation_range, register_small, shift_small, alter_small, io_small    how large a choice's number is
 --     last_choice   a number past the last choice gives the last
---     rest          in the last arm of a `match` on a number, what is the same from k on is as at k
+--     flag_weight, flag_small    the number that `u16::from` gives a flag
 -- Assumes nothing.
-use mathlib.Core.Path.{◌≡◌, refl, ◌∙◌, sym, ap}
+use mathlib.Core.Path.{◌≡◌, refl, sym}
 use mathlib.Core.Logic.{⊎_elim}
 use mathlib.Core.List.{List}
-use Prim.Native.Nat.{ℕ, zero-le, zero, suc, ◌+◌, ◌*◌, ◌/◌, ◌-◌, ◌≤◌, ◌<◌}
+use mathlib.Core.Bool.{Bool, true, false}
+use Rattle.std.specs.Int.{from_bool}
+use Rattle.word.specs.Words.{weight}
+use Prim.Native.Nat.{ℕ, suc, ◌+◌, ◌*◌, ◌/◌, ◌-◌, ◌≤◌, ◌<◌}
 use native.Mathlib.Omega.{arith}
-use native.Mathlib.Nat.{add-zero, add-suc, eq-or-lt_of_le}
+use native.Mathlib.Nat.{eq-or-lt_of_le}
 use borrow.Author.Tests.{eqb-true}
 use lib.Dec.{eqb}
 use lib.ListN.{length, get_or, get_or-eq_default}
@@ -26,7 +29,7 @@ use Rattle.code.specs.declared.instructions.IoOperation.{IoOperation}
 use Rattle.code.specs.declared.instructions.IoOperation.TheVariants.{Hlt, Flag, Sfc, Sfs, Mia, Lia, Ota, Control}
 use Rattle.code.specs.Instructions.{operation_code, operation_at, register_flag, register_at, shift_number, shift_at}
 use Rattle.code.specs.Instructions.{alter_number, alter_at, io_number, io_at}
-use Rattle.code.proofs.Digits.{under, Passed, last_arm}
+use Rattle.code.proofs.Digits.{under}
 
 pub operation_back : (o : Operation) → operation_at (operation_code o / 0o4000) ≡ o
 operation_back And = refl
@@ -141,21 +144,17 @@ io_small Lia = omega arith
 io_small Ota = omega arith
 io_small Control = omega arith
 
+-- a flag, as `u16::from` gives it
+pub flag_weight : (b : Bool) → from_bool b ≡ weight b
+flag_weight true = refl
+flag_weight false = refl
+
+pub flag_small : (b : Bool) → from_bool b < 2
+flag_small true = omega arith
+flag_small false = omega arith
+
 -- The last choice, at k, is the default as well.
 pub last_choice :
     {A : Type 0} (l : List A) (d : A) (n k : ℕ) → get_or l k d ≡ d → length l ≡ suc k → k ≤ n → d ≡ get_or l n d
 last_choice l d n k last all h =
     ⊎_elim (λ (q : k ≡ n). rw (← q) (sym last)) (λ (p : k < n). sym (get_or-eq_default l d {n = n} (rw all p))) (eq-or-lt_of_le h)
-
--- the number m past k
-abbrev pub beyond : ℕ → ℕ → ℕ
-beyond zero m = m
-beyond (suc k) m = suc (beyond k m)
-
-beyond_is : (k m : ℕ) → beyond k m ≡ m + k
-beyond_is zero m = sym (add-zero m)
-beyond_is (suc k) m = ap suc (beyond_is k m) ∙ sym (add-suc m k)
-
-pub rest : {A : Type 0} (f : ℕ → A) (k n : ℕ) → ((m : ℕ) → f (beyond k m) ≡ f k) → Passed n 0 k → f k ≡ f n
-rest f k n same p =
-    let e : (n - k) + k ≡ n = omega (arith, last_arm n 0 k zero-le p) in sym (same (n - k)) ∙ ap f (beyond_is k (n - k) ∙ e)

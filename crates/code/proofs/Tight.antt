@@ -3,16 +3,16 @@
 -- Assumes nothing.
 use mathlib.Core.Path.{sym, ◌∙◌}
 use Rattle.word.proofs.Tight.{OneResult}
-use Rattle.code.proofs.choices.operation_code.Kinds as operation_code_lem
-use Rattle.code.proofs.choices.operation_code.Reads as operation_code_reads
-use Rattle.code.proofs.choices.register_flag.Kinds as register_flag
-use Rattle.code.proofs.choices.register_flag.Reads as register_flag_reads
-use Rattle.code.proofs.choices.shift_number.Kinds as shift_number_lem
+use Rattle.code.proofs.choices.U16FromOperation.from.Kinds as operation_code
+use Rattle.code.proofs.choices.U16FromOperation.from.Reads as operation_code_reads
+use Rattle.code.proofs.choices.U16FromRegister.from.Kinds as register_flag
+use Rattle.code.proofs.choices.U16FromRegister.from.Reads as register_flag_reads
+use Rattle.code.proofs.choices.shift_number.Kinds as shift_number
 use Rattle.code.proofs.choices.shift_number.Reads as shift_number_reads
-use Rattle.code.proofs.choices.alter_number.Kinds as alter_number_lem
-use Rattle.code.proofs.choices.alter_number.Reads as alter_number_reads
-use Rattle.code.proofs.choices.io_number.Kinds as io_number_lem
-use Rattle.code.proofs.choices.io_number.Reads as io_number_reads
+use Rattle.code.proofs.choices.U16FromAlter.from.Kinds as alter_number
+use Rattle.code.proofs.choices.U16FromAlter.from.Reads as alter_number_reads
+use Rattle.code.proofs.choices.U16FromIoOperation.from.Kinds as io_number
+use Rattle.code.proofs.choices.U16FromIoOperation.from.Reads as io_number_reads
 use Rattle.code.proofs.choices.operation_at.Kinds as operation_at
 use Rattle.code.proofs.choices.operation_at.Reads as operation_at_reads
 use Rattle.code.proofs.choices.register_at.Kinds as register_at
@@ -40,19 +40,19 @@ use Rattle.code.proofs.instructions.read_instruction.Reads as read_instruction_r
 use Rattle.code.proofs.instructions.write_instruction.Kinds as write_instruction
 use Rattle.code.proofs.instructions.write_instruction.Reads as write_instruction_reads
 
-pub operation_code_tight : OneResult 0 operation_code_lem.ps operation_code_lem.r operation_code_reads.Post
+pub operation_code_tight : OneResult 0 operation_code.ps operation_code.r operation_code_reads.Post
 operation_code_tight κs a x y s t p q = p.0 ∙ sym q.0
 
 pub register_flag_tight : OneResult 0 register_flag.ps register_flag.r register_flag_reads.Post
 register_flag_tight κs a x y s t p q = p.0 ∙ sym q.0
 
-pub shift_number_tight : OneResult 0 shift_number_lem.ps shift_number_lem.r shift_number_reads.Post
+pub shift_number_tight : OneResult 0 shift_number.ps shift_number.r shift_number_reads.Post
 shift_number_tight κs a x y s t p q = p.0 ∙ sym q.0
 
-pub alter_number_tight : OneResult 0 alter_number_lem.ps alter_number_lem.r alter_number_reads.Post
+pub alter_number_tight : OneResult 0 alter_number.ps alter_number.r alter_number_reads.Post
 alter_number_tight κs a x y s t p q = p.0 ∙ sym q.0
 
-pub io_number_tight : OneResult 0 io_number_lem.ps io_number_lem.r io_number_reads.Post
+pub io_number_tight : OneResult 0 io_number.ps io_number.r io_number_reads.Post
 io_number_tight κs a x y s t p q = p.0 ∙ sym q.0
 
 pub operation_at_tight : OneResult 0 operation_at.ps operation_at.r operation_at_reads.Post

@@ -5,7 +5,7 @@
 -- That the two are inverse is in proofs/Exact.antt.
 -- Assumes nothing.
 use Rattle.std.specs.Prelude.{ℕ, ◌+◌, ◌-◌, ◌*◌, ◌/◌, ◌%◌, Bool, true, false, cond, List, [], ◌∷◌, Option, Some, None, eqb, ltb, leb, get_or}
-use Rattle.word.specs.Words.{bit}
+use Rattle.word.specs.Words.{bit, weight}
 use Rattle.word.specs.declared.long.LongShift.{LongShift}
 use Rattle.word.specs.declared.shifts.ShiftCode.{ShiftCode}
 use Rattle.word.specs.declared.shifts.ShiftCode.TheVariants.{Als, Ars, Ral, Rar, Alr, Era, Ela, Alf}
@@ -169,31 +169,27 @@ reading w =
 
 -- Writing.
 
-abbrev pub flag : Bool → ℕ
-flag true = 1
-flag false = 0
-
 unfoldable pub write_memory_reference : Operation → Bool → Bool → ℕ → Option ℕ
 write_memory_reference o indirect current offset =
-    cond (ltb 0o1777 offset) None (Some (flag indirect * 0o100000 + operation_code o + flag current * 0o2000 + offset))
+    cond (ltb 0o1777 offset) None (Some (weight indirect * 0o100000 + operation_code o + weight current * 0o2000 + offset))
 
 unfoldable pub write_shift_rotate : of_shift_rotate.ShiftRotate → Option ℕ
 write_shift_rotate s =
     Some
-    (register_flag s.register * 0o4000 + flag s.enabled1 * 0o1000 + shift_number s.shift1 * 0o100
-    + flag s.cle * 0o40 + flag s.enabled2 * 0o20 + flag s.sla * 0o10 + shift_number s.shift2)
+    (register_flag s.register * 0o4000 + weight s.enabled1 * 0o1000 + shift_number s.shift1 * 0o100
+    + weight s.cle * 0o40 + weight s.enabled2 * 0o20 + weight s.sla * 0o10 + shift_number s.shift2)
 
 unfoldable pub write_alter_skip : of_alter_skip.AlterSkip → Option ℕ
 write_alter_skip s =
     Some
     (0o2000 + register_flag s.register * 0o4000 + alter_number s.alter * 0o400 + alter_number s.extend * 0o100
-    + flag s.sez * 0o40 + flag s.ssa * 0o20 + flag s.sla * 0o10 + flag s.ina * 0o4 + flag s.sza * 0o2
-    + flag s.rss)
+    + weight s.sez * 0o40 + weight s.ssa * 0o20 + weight s.sla * 0o10 + weight s.ina * 0o4 + weight s.sza * 0o2
+    + weight s.rss)
 
 unfoldable pub write_input_output : IoOperation → Bool → Bool → ℕ → Option ℕ
 write_input_output o bit11 bit9 select =
     cond (ltb 0o77 select) None
-    (Some (0o102000 + flag bit11 * 0o4000 + flag bit9 * 0o1000 + io_number o * 0o100 + select))
+    (Some (0o102000 + weight bit11 * 0o4000 + weight bit9 * 0o1000 + io_number o * 0o100 + select))
 
 -- a count of 1 to 16 in the low four bits
 unfoldable pub write_long_shift : LongShift → ℕ → Option ℕ

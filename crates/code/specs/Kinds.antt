@@ -1,13 +1,10 @@
--- The kinds of an extended code, and the numbers by which the table of src/ names them. A number is made of small numbers,
+-- The kinds of an extended code, and when two are the same. A kind has a number, made of small numbers,
 --     group * 64 + operation * 4 + register * 2 + index register or map
 -- so one more operation of a group, of which there is room for 16, moves no other number:
---     number     of a kind
---     kind_at    the kind at a number
---     kept       a row as that table keeps it
---     holds      whether a row so kept is the row of a word
---     same       whether two kinds are the same, told by their numbers
--- That no two kinds have the same number, and that each kind is the one at its number, is in proofs/Table.antt. The table is in
--- Codes. Assumes nothing.
+--     number                   of a kind
+--     same                     whether two kinds are the same, told by their numbers
+--     registers, register_at   A and B in their order, and the register at a number
+-- That no two kinds have the same number is in proofs/Table.antt. The table is in Codes. Assumes nothing.
 use Rattle.std.specs.Prelude.{ℕ, ◌+◌, Bool, List, [], ◌∷◌, eqb, get_or}
 use Rattle.word.specs.declared.long.LongShift.{LongShift}
 use Rattle.word.specs.declared.long.LongShift.TheVariants.{Asl, Lsl, Rrl, Asr, Lsr, Rrr}
@@ -35,8 +32,6 @@ use Rattle.code.specs.declared.codes.Extended.{Extended}
 use Rattle.code.specs.declared.codes.Extended.TheVariants.{Cross, Transfer, Indexing, Arithmetic, Bytes, Bits, Words}
 use Rattle.code.specs.declared.codes.Kind.{Kind}
 use Rattle.code.specs.declared.codes.Kind.TheVariants.{Exact, Long}
-
--- From a kind to its number.
 
 abbrev pub register_number : Register → ℕ
 register_number A = 0
@@ -111,13 +106,13 @@ abbrev pub number : Kind → ℕ
 number (Exact e) = extended_number e
 number (Long s) = long_number s
 
--- From a number to its kind: the choices in their order, and past them the last.
+abbrev pub same : Kind → Kind → Bool
+same j k = eqb (number j) (number k)
+
+-- The registers in their order; past the last it is the last.
 
 abbrev pub registers : List Register
 registers = A ∷ B ∷ []
 
 abbrev pub register_at : ℕ → Register
 register_at n = get_or registers n B
-
-abbrev pub same : Kind → Kind → Bool
-same j k = eqb (number j) (number k)

@@ -10,80 +10,44 @@ use word::shifts::ShiftCode;
 
 // From a choice to its number. The bound is for the sums of the writer.
 
-pub fn operation_code(operation: Operation) -> u16
-    ensures is { result ≡ operation_code operation }
-    ensures small { result ≤ 0o74000 }
-{
-    match operation {
-        Operation::And => 0o010000,
-        Operation::Jsb => 0o014000,
-        Operation::Xor => 0o020000,
-        Operation::Jmp => 0o024000,
-        Operation::Ior => 0o030000,
-        Operation::Isz => 0o034000,
-        Operation::Ada => 0o040000,
-        Operation::Adb => 0o044000,
-        Operation::Cpa => 0o050000,
-        Operation::Cpb => 0o054000,
-        Operation::Lda => 0o060000,
-        Operation::Ldb => 0o064000,
-        Operation::Sta => 0o070000,
-        Operation::Stb => 0o074000,
+impl From<Operation> for u16 {
+    ghost from_gives = { λ operation n. (n ≡ operation_code operation) × (n ≤ 0o74000) };
+
+    fn from(operation: Operation) -> u16 {
+        operation as u16
     }
 }
 
-pub fn register_flag(register: Register) -> u16
-    ensures is { result ≡ register_flag register }
-    ensures small { result ≤ 1 }
-{
-    match register {
-        Register::A => 0,
-        Register::B => 1,
+impl From<Register> for u16 {
+    ghost from_gives = { λ register n. (n ≡ register_flag register) × (n ≤ 1) };
+
+    fn from(register: Register) -> u16 {
+        register as u16
     }
 }
 
+impl From<Alter> for u16 {
+    ghost from_gives = { λ alter n. (n ≡ alter_number alter) × (n ≤ 3) };
+
+    fn from(alter: Alter) -> u16 {
+        alter as u16
+    }
+}
+
+impl From<IoOperation> for u16 {
+    ghost from_gives = { λ operation n. (n ≡ io_number operation) × (n ≤ 7) };
+
+    fn from(operation: IoOperation) -> u16 {
+        operation as u16
+    }
+}
+
+// A shift code is of another crate, so this is no `From`.
 pub fn shift_number(code: ShiftCode) -> u16
     ensures is { result ≡ shift_number code }
     ensures small { result ≤ 7 }
 {
-    match code {
-        ShiftCode::Als => 0,
-        ShiftCode::Ars => 1,
-        ShiftCode::Ral => 2,
-        ShiftCode::Rar => 3,
-        ShiftCode::Alr => 4,
-        ShiftCode::Era => 5,
-        ShiftCode::Ela => 6,
-        ShiftCode::Alf => 7,
-    }
-}
-
-pub fn alter_number(alter: Alter) -> u16
-    ensures is { result ≡ alter_number alter }
-    ensures small { result ≤ 3 }
-{
-    match alter {
-        Alter::Keep => 0,
-        Alter::Clear => 1,
-        Alter::Complement => 2,
-        Alter::Ones => 3,
-    }
-}
-
-pub fn io_number(operation: IoOperation) -> u16
-    ensures is { result ≡ io_number operation }
-    ensures small { result ≤ 7 }
-{
-    match operation {
-        IoOperation::Hlt => 0,
-        IoOperation::Flag => 1,
-        IoOperation::Sfc => 2,
-        IoOperation::Sfs => 3,
-        IoOperation::Mia => 4,
-        IoOperation::Lia => 5,
-        IoOperation::Ota => 6,
-        IoOperation::Control => 7,
-    }
+    code as u16
 }
 
 // From a number to the choice that has it.
@@ -93,9 +57,7 @@ pub fn operation_at(n: u16) -> Operation
     ensures { result ≡ operation_at n }
 {
     match n {
-        0 => Operation::And,
-        1 => Operation::And,
-        2 => Operation::And,
+        0..=2 => Operation::And,
         3 => Operation::Jsb,
         4 => Operation::Xor,
         5 => Operation::Jmp,

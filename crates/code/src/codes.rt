@@ -109,7 +109,7 @@ pub struct Entry {
     pub kind: Kind,
 }
 
-// A row of the table, its kind by the names of the enums above.
+// A row by its code, its length, and its kind in short.
 macro_rules! row {
     ($code:literal, $length:literal, Cross($operation:ident, $register:ident, $map:ident)) => {
         Entry {
@@ -221,7 +221,7 @@ static TABLE: [Entry; 61] = [
 ];
 
 impl Entry {
-    // Whether this is the row of a word.
+    // Whether it is the row of a word.
     fn covers(self, word: u16) -> bool
         ensures { result ≡ covers word self }
     {
@@ -231,7 +231,7 @@ impl Entry {
         }
     }
 
-    // Whether this is the row of a kind.
+    // Whether it is the row of a kind.
     fn is_of(self, kind: Kind) -> bool
         ensures { IsTrue result ↔ (self.kind ≡ kind) }
     {
@@ -239,6 +239,7 @@ impl Entry {
     }
 }
 
+#[tactic(auto, unfolding(crate::specs::Codes::find_word, crate::specs::Codes::rows))]
 pub fn find_word(word: u16) -> Option<Entry>
     ensures { result ≡ find_word word }
 {

@@ -1,34 +1,31 @@
 // Every word read as one instruction, and every instruction that has a word written back.
 ghost use Rattle.std.specs.Prelude.{◌≡◌, ◌≤◌};
-ghost use Rattle.code.specs.Instructions.{flag, memory_reference, shift_fields, shift_rotate, alter_fields, alter_skip};
+ghost use Rattle.code.specs.Instructions.{memory_reference, shift_fields, shift_rotate, alter_fields, alter_skip};
 ghost use Rattle.code.specs.Instructions.{input_output, extended, reading};
 ghost use Rattle.code.specs.Instructions.{places, write_memory_reference, write_shift_rotate, write_alter_skip, write_input_output};
 ghost use Rattle.code.specs.Instructions.{write_long_shift, write_extended, built, write_not_built, writing};
 
-use crate::choices::{
-    alter_at, alter_number, io_at, io_number, operation_at, operation_code, register_at,
-    register_flag, shift_at, shift_number,
-};
+use crate::choices::{alter_at, io_at, operation_at, register_at, shift_at, shift_number};
 use crate::codes::{Extended, Kind, Register, find_kind, find_word};
 use word::long::LongShift;
 use word::shifts::ShiftCode;
 
 #[derive(Clone, Copy, Debug, PartialEq, Eq)]
 pub enum Operation {
-    And,
-    Jsb,
-    Xor,
-    Jmp,
-    Ior,
-    Isz,
-    Ada,
-    Adb,
-    Cpa,
-    Cpb,
-    Lda,
-    Ldb,
-    Sta,
-    Stb,
+    And = 0o010000,
+    Jsb = 0o014000,
+    Xor = 0o020000,
+    Jmp = 0o024000,
+    Ior = 0o030000,
+    Isz = 0o034000,
+    Ada = 0o040000,
+    Adb = 0o044000,
+    Cpa = 0o050000,
+    Cpb = 0o054000,
+    Lda = 0o060000,
+    Ldb = 0o064000,
+    Sta = 0o070000,
+    Stb = 0o074000,
 }
 
 // The first shift, CLE, SLA and the second shift, in this order.
@@ -120,17 +117,14 @@ fn read_memory_reference(word: u16) -> Instruction
 pub fn shift_rotate_of(word: u16) -> ShiftRotate
     ensures { result ≡ shift_fields word }
 {
-    let register = register_at(word / 0o4000 % 2);
-    let shift1 = shift_at(word / 0o100 % 8);
-    let shift2 = shift_at(word % 8);
     ShiftRotate {
-        register,
+        register: register_at(word / 0o4000 % 2),
         enabled1: word / 0o1000 % 2 == 1,
-        shift1,
+        shift1: shift_at(word / 0o100 % 8),
         cle: word / 0o40 % 2 == 1,
         sla: word / 0o10 % 2 == 1,
         enabled2: word / 0o20 % 2 == 1,
-        shift2,
+        shift2: shift_at(word % 8),
     }
 }
 
@@ -145,14 +139,11 @@ fn read_shift_rotate(word: u16) -> Instruction
 pub fn alter_skip_of(word: u16) -> AlterSkip
     ensures { result ≡ alter_fields word }
 {
-    let register = register_at(word / 0o4000 % 2);
-    let alter = alter_at(word / 0o400 % 4);
-    let extend = alter_at(word / 0o100 % 4);
     AlterSkip {
-        register,
-        alter,
+        register: register_at(word / 0o4000 % 2),
+        alter: alter_at(word / 0o400 % 4),
         sez: word / 0o40 % 2 == 1,
-        extend,
+        extend: alter_at(word / 0o100 % 4),
         ssa: word / 0o20 % 2 == 1,
         sla: word / 0o10 % 2 == 1,
         ina: word / 0o4 % 2 == 1,
@@ -224,13 +215,6 @@ pub fn read_instruction(word: u16) -> Instruction
 
 // Writing, field by field.
 
-fn flag_of(b: bool) -> u16
-    ensures is { result ≡ flag b }
-    ensures small { result ≤ 1 }
-{
-    if b { 1 } else { 0 }
-}
-
 #[tactic(auto, unfolding(crate::specs::Instructions::write_memory_reference))]
 fn write_memory_reference(
     operation: Operation,
@@ -244,9 +228,9 @@ fn write_memory_reference(
         return None;
     }
     Some(
-        flag_of(indirect) * 0o100000
-            + operation_code(operation)
-            + flag_of(current) * 0o2000
+        u16::from(indirect) * 0o100000
+            + u16::from(operation)
+            + u16::from(current) * 0o2000
             + offset,
     )
 }
@@ -255,38 +239,32 @@ fn write_memory_reference(
 fn write_shift_rotate(s: ShiftRotate) -> Option<u16>
     ensures { result ≡ write_shift_rotate s }
 {
-    let register = s.register;
-    let shift1 = s.shift1;
-    let shift2 = s.shift2;
     Some(
-        register_flag(register) * 0o4000
-            + flag_of(s.enabled1) * 0o1000
-            + shift_number(shift1) * 0o100
-            + flag_of(s.cle) * 0o40
-            + flag_of(s.enabled2) * 0o20
-            + flag_of(s.sla) * 0o10
-            + shift_number(shift2),
+        u16::from(s.register) * 0o4000
+            + u16::from(s.enabled1) * 0o1000
+            + shift_number(s.shift1) * 0o100
+            + u16::from(s.cle) * 0o40
+            + u16::from(s.enabled2) * 0o20
+            + u16::from(s.sla) * 0o10
+            + shift_number(s.shift2),
     )
 }
 
-#[tactic(auto, unfolding(crate::specs::Instructions::write_alter_skip))]
+#[tactic(auto, using(crate::proofs::Picks::flag_weight, crate::proofs::Picks::flag_small), unfolding(crate::specs::Instructions::write_alter_skip))]
 fn write_alter_skip(s: AlterSkip) -> Option<u16>
     ensures { result ≡ write_alter_skip s }
 {
-    let register = s.register;
-    let alter = s.alter;
-    let extend = s.extend;
     Some(
         0o2000
-            + register_flag(register) * 0o4000
-            + alter_number(alter) * 0o400
-            + alter_number(extend) * 0o100
-            + flag_of(s.sez) * 0o40
-            + flag_of(s.ssa) * 0o20
-            + flag_of(s.sla) * 0o10
-            + flag_of(s.ina) * 0o4
-            + flag_of(s.sza) * 0o2
-            + flag_of(s.rss),
+            + u16::from(s.register) * 0o4000
+            + u16::from(s.alter) * 0o400
+            + u16::from(s.extend) * 0o100
+            + u16::from(s.sez) * 0o40
+            + u16::from(s.ssa) * 0o20
+            + u16::from(s.sla) * 0o10
+            + u16::from(s.ina) * 0o4
+            + u16::from(s.sza) * 0o2
+            + u16::from(s.rss),
     )
 }
 
@@ -299,9 +277,9 @@ fn write_input_output(operation: IoOperation, bit11: bool, bit9: bool, select: u
     }
     Some(
         0o102000
-            + flag_of(bit11) * 0o4000
-            + flag_of(bit9) * 0o1000
-            + io_number(operation) * 0o100
+            + u16::from(bit11) * 0o4000
+            + u16::from(bit9) * 0o1000
+            + u16::from(operation) * 0o100
             + select,
     )
 }

@@ -19,7 +19,8 @@ use Rattle.word.specs.Sums.{incremented, decremented, address}
 use Rattle.maps.specs.Access.{fetched}
 use Rattle.maps.specs.Chains.{chain}
 use Rattle.maps.specs.declared.pages.Map.{Map}
-use Rattle.code.specs.Codes.{find_word, first, rows}
+use Rattle.std.specs.Prelude.{Some, None, find}
+use Rattle.code.specs.Codes.{find_word, rows}
 use Rattle.code.specs.Instructions.{memory_reference, shift_rotate, alter_skip, input_output, places, of_kind, extended, reading}
 use Rattle.code.proofs.Fields.{is_extended}
 use Rattle.code.specs.declared.codes.Register.{Register}
@@ -34,7 +35,6 @@ use Rattle.code.specs.declared.codes.Arithmetic.{Arithmetic}
 use Rattle.code.specs.declared.codes.Arithmetic.TheVariants.{Mpy, Div, Dld, Dst}
 use Rattle.code.specs.declared.codes.Extended.{Extended}
 use Rattle.code.specs.declared.codes.Kind.TheVariants.{Exact, Long}
-use Rattle.code.specs.declared.codes.Found.TheVariants.{At, Nothing}
 use Rattle.code.specs.declared.instructions.Instruction.{Instruction}
 use Rattle.acts.specs.Record.{with_a, with_b, in_index, ahead}
 use Rattle.acts.specs.Acts.{Act, fin, load, follow, done, exec}
@@ -153,9 +153,9 @@ in_group w l h = is_extended w (omega arith) (omega arith) (omega arith)
 -- the search of the table, by the bits above the places where it asks for them
 abbrev sought : ℕ → ℕ → Instruction
 sought w q =
-    elim (first (λ e. elim e.kind [ Exact _ ↦ eqb w e.code | Long _ ↦ eqb q (e.code / 16) ]) rows) [
-      | At e ↦ of_kind e.kind w
-      | Nothing ↦ Instruction.NotBuilt w
+    elim (find (λ e. elim e.kind [ Exact _ ↦ eqb w e.code | Long _ ↦ eqb q (e.code / 16) ]) rows) [
+      | Some e ↦ of_kind e.kind w
+      | None ↦ Instruction.NotBuilt w
     ]
 
 found : (w : ℕ) {q : ℕ} → w / 16 ≡ q → extended w ≡ sought w q
@@ -168,11 +168,11 @@ read_long Asl w e = in_group w (omega arith) (omega arith) ∙ found w e
 read_long Lsl w e = in_group w (omega arith) (omega arith) ∙ found w e
 read_long Rrl w e = in_group w (omega arith) (omega arith) ∙ found w e
 read_long Asr w e =
-    in_group w (omega arith) (omega arith) ∙ found w e ∙ rw (ne_eqb w 0o100200 (λ q. omega arith), ne_eqb w 0o100400 (λ q. omega arith), sought, first)
+    in_group w (omega arith) (omega arith) ∙ found w e ∙ rw (ne_eqb w 0o100200 (λ q. omega arith), ne_eqb w 0o100400 (λ q. omega arith), sought, find)
 read_long Lsr w e =
-    in_group w (omega arith) (omega arith) ∙ found w e ∙ rw (ne_eqb w 0o100200 (λ q. omega arith), ne_eqb w 0o100400 (λ q. omega arith), sought, first)
+    in_group w (omega arith) (omega arith) ∙ found w e ∙ rw (ne_eqb w 0o100200 (λ q. omega arith), ne_eqb w 0o100400 (λ q. omega arith), sought, find)
 read_long Rrr w e =
-    in_group w (omega arith) (omega arith) ∙ found w e ∙ rw (ne_eqb w 0o100200 (λ q. omega arith), ne_eqb w 0o100400 (λ q. omega arith), sought, first)
+    in_group w (omega arith) (omega arith) ∙ found w e ∙ rw (ne_eqb w 0o100200 (λ q. omega arith), ne_eqb w 0o100400 (λ q. omega arith), sought, find)
 
 again : (w : ℕ) → places (places w) ≡ places w
 again w = go (eqb (w % 16) 0) refl

@@ -1,10 +1,18 @@
 -- `a400::fields::write_fields` meets its contract: the fields read again, or not. Assumes nothing.
-use mathlib.Core.Path.{◌∙◌}
+use Rattle.std.proofs.Common.{◌∙◌, sym}
+use Rattle.std.proofs.lemmas.Bool.Decides.{Decides-eqb}
+use Rattle.std.proofs.lemmas.Slice.Eq.{slice_eq-Decides}
+use Rattle.code.proofs.Truth.{never}
 use Rattle.a400.proofs.Writes.{wrote, unwritten}
 use Rattle.a400.proofs.fields.write_fields.Goals as goal
 
-pub returns-then-same_words : goal.returns-then-same_words
-returns-then-same_words c = c.write_instruction.ensures ∙ wrote c.args.fields.now c.instruction_at-i.result c.fields_of-again.result c.same_words.result c.instruction_at-i.ensures c.fields_of-again.ensures c.same_words.ensures c.if-same_words.true
+pub returns-then-eq : goal.returns-then-eq
+returns-then-eq c =
+    c.write_instruction.ensures
+    ∙ wrote c.args.fields.now _ _ c.instruction_at-instruction.ensures c.fields_of-again.ensures
+    ((slice_eq-Decides Decides-eqb _ _ _ c.eq.ensures).0 c.if-eq.true ∙ c.as_slice.ensures)
 
 pub returns : goal.returns
-returns c = unwritten c.args.fields.now c.instruction_at-i.result c.fields_of-again.result c.same_words.result c.instruction_at-i.ensures c.fields_of-again.ensures c.same_words.ensures c.if-same_words.false
+returns c =
+    unwritten c.args.fields.now _ _ c.instruction_at-instruction.ensures c.fields_of-again.ensures
+    (λ e. never (sym ((slice_eq-Decides Decides-eqb _ _ _ c.eq.ensures).1 (e ∙ sym c.as_slice.ensures)) ∙ c.if-eq.false))
