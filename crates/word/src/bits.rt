@@ -42,8 +42,11 @@ pub fn byte_of(odd: bool, word: u16) -> u8
 pub fn with_byte(odd: bool, word: u16, byte: u8) -> u16
     ensures { result ≡ with_byte odd word byte }
 {
-    let [high, low] = word.to_be_bytes();
-    u16::from_be_bytes(if odd { [high, byte] } else { [byte, low] })
+    if odd {
+        word >> 8 << 8 | u16::from(byte)
+    } else {
+        u16::from(byte) << 8 | word & 0o377
+    }
 }
 
 pub fn clear_bits(mask: u16, word: u16) -> u16

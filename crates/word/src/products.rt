@@ -1,8 +1,8 @@
 // MPY and DIV on signed values.
-ghost use Rattle.std.specs.Prelude.{◌≡◌, if◌then◌else◌, Some, None};
-ghost use Rattle.std.specs.Int.{w16};
+ghost use Rattle.std.specs.Prelude.{◌≡◌, ◌≢◌, true, pos, if◌then◌else◌, int_div, Some, None};
+ghost use Rattle.std.specs.Int.{w16, w32};
 ghost use Rattle.word.specs.Signed.{bits_of, within};
-ghost use Rattle.word.specs.Products.{multiplied, divided};
+ghost use Rattle.word.specs.Products.{multiplied, quotient_of, divided};
 
 use crate::values::{double_bits, double_value, join, split, word_value};
 
@@ -34,17 +34,30 @@ fn word_of(z: i32) -> Option<u16>
     i16::try_from(z).ok().map(i16::cast_unsigned)
 }
 
-// None where the divisor is 0 or the quotient is no word's value.
-#[tactic(auto, unfolding(crate::specs::Products::divided))]
-pub fn divide(b: u16, a: u16, m: u16) -> Option<Quotient>
-    ensures { result ≡ divided b a m }
+// The division proper: one machine division gives the quotient and the remainder.
+fn division(z: i32, k: i16) -> Option<Quotient>
+    requires divisor { k ≢ pos 0 }
+    requires fits { within w32 (int_div z k) ≡ true }
+    ensures { result ≡ (if within w16 (int_div z k) then quotient_of z k else None) }
 {
-    let dividend = double_value(join(b, a));
-    let divisor = i32::from(word_value(m));
-    let quotient = word_of(dividend.checked_div(divisor)?)?;
-    let remainder = (dividend % divisor) as i16;
+    let divisor = i32::from(k);
+    let quotient = word_of(z / divisor)?;
+    let remainder = (z % divisor) as i16;
     Some(Quotient {
         quotient,
         remainder: remainder.cast_unsigned(),
     })
+}
+
+// None where the divisor is 0 or the quotient is no word's value. The double word -2,147,483,648 by
+// -1 is met before any division is tried.
+#[tactic(auto, unfolding(crate::specs::Products::divided))]
+pub fn divide(b: u16, a: u16, m: u16) -> Option<Quotient>
+    ensures { result ≡ divided b a m }
+{
+    let d = join(b, a);
+    if m == 0 || m == 0o177777 && d == 0x8000_0000 {
+        return None;
+    }
+    division(double_value(d), word_value(m))
 }
