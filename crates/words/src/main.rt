@@ -1,43 +1,66 @@
 // Reads all 65,536 words and prints how many are of each class.
 #![tactic(auto)]
 
-use code::instructions::Instruction;
-use std::io;
+use code::instructions::{Instruction, read_instruction};
+use std::{fmt, io};
 
-// A class by its number, in the order of the listing.
-fn class_of(word: u16) -> u8 {
-    match code::instructions::read_instruction(word) {
-        Instruction::MemoryReference { .. } => 0,
-        Instruction::ShiftRotate(_) => 1,
-        Instruction::AlterSkip(_) => 2,
-        Instruction::InputOutput { .. } => 3,
-        Instruction::Extended(_) => 4,
-        Instruction::LongShift { .. } => 5,
-        Instruction::NotBuilt(_) => 6,
-    }
+// In the order of the listing.
+#[derive(Clone, Copy, Debug, PartialEq, Eq)]
+enum Class {
+    MemoryReference,
+    ShiftRotate,
+    AlterSkip,
+    InputOutput,
+    Extended,
+    LongShift,
+    NotBuilt,
 }
 
-fn count_of(class: u8) -> u64 {
-    let mut n: u64 = 0;
-    for word in 0..=u16::MAX {
-        if class_of(word) == class {
-            n += 1;
+static CLASSES: [Class; 7] = [
+    Class::MemoryReference,
+    Class::ShiftRotate,
+    Class::AlterSkip,
+    Class::InputOutput,
+    Class::Extended,
+    Class::LongShift,
+    Class::NotBuilt,
+];
+
+impl From<Instruction> for Class {
+    fn from(instruction: Instruction) -> Class {
+        match instruction {
+            Instruction::MemoryReference { .. } => Class::MemoryReference,
+            Instruction::ShiftRotate(_) => Class::ShiftRotate,
+            Instruction::AlterSkip(_) => Class::AlterSkip,
+            Instruction::InputOutput { .. } => Class::InputOutput,
+            Instruction::Extended(_) => Class::Extended,
+            Instruction::LongShift { .. } => Class::LongShift,
+            Instruction::NotBuilt(_) => Class::NotBuilt,
         }
     }
-    n
 }
 
-fn print(rt: &impl Print, label: &[u8], class: u8) -> io::Result<()> {
-    rt.write_all(label)?;
-    println!(rt; "{}", count_of(class))
+impl fmt::Display for Class {
+    fn fmt<W: fmt::Write>(&self, f: &mut fmt::Formatter<W>) -> fmt::Result {
+        f.write_str(match self {
+            Class::MemoryReference => "memory reference",
+            Class::ShiftRotate => "shift/rotate",
+            Class::AlterSkip => "alter/skip",
+            Class::InputOutput => "I/O",
+            Class::Extended => "extended",
+            Class::LongShift => "long shift",
+            Class::NotBuilt => "not built",
+        })
+    }
 }
 
 fn main(rt: HostRuntime) -> io::Result<()> {
-    print(&rt, b"memory reference ", 0)?;
-    print(&rt, b"shift/rotate ", 1)?;
-    print(&rt, b"alter/skip ", 2)?;
-    print(&rt, b"I/O ", 3)?;
-    print(&rt, b"extended ", 4)?;
-    print(&rt, b"long shift ", 5)?;
-    print(&rt, b"not built ", 6)
+    let mut counts = [0u32; CLASSES.len()];
+    for word in 0..=u16::MAX {
+        counts[Class::from(read_instruction(word)) as usize] += 1;
+    }
+    for (class, count) in CLASSES.iter().zip(counts) {
+        println!(rt; "{class} {count}")?;
+    }
+    Ok(())
 }
