@@ -1,10 +1,9 @@
 // MVW and MBT after their count was read: the tests of both ranges, then one element after another.
-ghost use Rattle.std.specs.Prelude.{◌≡◌, ℕ, ◌+◌, ◌%◌, ◌<◌, ◌≤◌, not, ◌&&◌, ◌||◌, List, length, ◌==◌, nat_lt, Result};
+ghost use Rattle.std.specs.Prelude.{◌≡◌, ℕ, ◌+◌, ◌%◌, ◌<◌, ◌≤◌, not, ◌&&◌, ◌||◌, List, length, ◌==◌, nat_lt};
 ghost use Rattle.maps.specs.Pages.{place};
 ghost use Rattle.maps.specs.declared.pages.Place.{Place as Where};
-ghost use Rattle.maps.specs.declared.troubles.Trouble.{Trouble as Met};
 ghost use Rattle.acts.specs.Acts.{Act, Performs, exec, fin, done, on_tested};
-ghost use Rattle.strings.specs.Copies.{Stretch, ToldByPages, first_trouble, place_in, index_of, places_in, carried, copies};
+ghost use Rattle.strings.specs.Copies.{Stretch, Test, Answers, ToldByPages, first_trouble, place_in, index_of, places_in, carried, copies};
 ghost use Rattle.strings.specs.Strings.{word_at, purpose_of, touches, opens_all, present_all, tested, carrying, moved, past_ranges, move_act};
 ghost use Rattle.std.specs.Prelude.{Ok as Good};
 
@@ -174,7 +173,7 @@ impl Span {
     // The first trouble that a test of words meets, where the last word on each page tells of those before it.
     fn test_pages<F: Fn(u16) -> Result<(), Trouble>>(self, test: F) -> Result<(), Trouble>
         requires { F.IsAlwaysCallable test }
-        ensures { (T : ℕ → Result Unit Met) → ((x : ℕ) (y : _) → x < 65536 → F.post test x y → y ≡ T x) → ToldByPages T → result ≡ first_trouble T self.element self.at self.count }
+        ensures { (T : Test) → Answers T (F.post test) → ToldByPages T → result ≡ first_trouble T self.element self.at self.count }
     {
         let mut next = self.at;
         let mut left = self.count;

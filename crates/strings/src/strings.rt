@@ -1,6 +1,6 @@
 // Words and bytes, single and compared in strings, and the masks.
 ghost use Rattle.std.specs.Prelude.{◌≡◌};
-ghost use Rattle.acts.specs.Acts.{Performs, Gives};
+ghost use Rattle.acts.specs.Acts.{load, Performs, Gives};
 ghost use Rattle.strings.specs.Strings.{word_at, along, value_of, order_of, load_element, comparing};
 ghost use Rattle.strings.specs.Strings.{Compares, concluded, byte_loaded, byte_stored, none_to_do, count};
 ghost use Rattle.strings.specs.Strings.{compare_act, masked, mask_act};
@@ -17,6 +17,14 @@ use std::cmp::Ordering;
 use word::bits::{byte_of, clear_bits, every_bit_set, with_byte};
 use word::orders::{compare_bytes, compare_words};
 use word::sums::past;
+
+// The word at an address of the Execute map.
+#[tactic(auto, unfolding(acts::specs::Acts::exec))]
+fn load_word(at: u16, r: Registers, pages: &[u16], memory: &[u16]) -> Result<u16, Trouble>
+    ensures { Gives pages.now (load Map.Execute at) r memory.now result }
+{
+    r.read(Map::Execute, at, pages, memory)
+}
 
 // What a string is made of.
 #[derive(Clone, Copy, Debug, PartialEq, Eq)]
@@ -60,7 +68,7 @@ impl Element {
         if is_register(Map::Execute, holder) {
             return Err(Trouble::InRegisters);
         }
-        r.read(Map::Execute, holder, pages, memory)
+        load_word(holder, r, pages, memory)
     }
 
     // The order of the elements at s and d, whose words are v and w.
@@ -102,7 +110,7 @@ pub(crate) fn count_at(r: Registers, pages: &[u16], memory: &[u16]) -> Result<u1
     ensures { Gives pages.now (count r) r memory.now result }
 {
     let at = get_address(1, r, pages, memory)?;
-    r.read(Map::Execute, at, pages, memory)
+    load_word(at, r, pages, memory)
 }
 
 // LBT
@@ -206,8 +214,8 @@ pub fn mask_bits(
 {
     let m = get_address(1, r, pages, memory)?;
     let at = get_address(2, r, pages, memory)?;
-    let mask = r.read(Map::Execute, m, pages, memory)?;
-    let w = r.read(Map::Execute, at, pages, memory)?;
+    let mask = load_word(m, r, pages, memory)?;
+    let w = load_word(at, r, pages, memory)?;
     put_masked(x, mask, w, at, r, pages, memory)
 }
 

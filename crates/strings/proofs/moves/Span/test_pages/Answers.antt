@@ -10,19 +10,19 @@ returns-in_err-test g c = λ T is told.
     let p = err_from_is_err_and c.from_residual.result c.from_residual.ensures.1 in
     rw (p.1, p.2)
     (sym (first_past T told _ _ _ _ c.loop-left.invariant.0 c.loop-left-test.true c.stretch-stretch.ensures c.along-last.ensures c.word_at.ensures (is _ _ c.word_at.type_inv c.test.ensures) c.in_err-test.was)
-    ∙ c.loop-left.invariant.1 T told is)
+    ∙ c.loop-left.invariant.1 T is told)
 
 pub loop-left-preserved : goal.loop-left-preserved
 loop-left-preserved g c = (
   rw c.along-next.ensures (along_fits c.args.self.element c.loop-left.next c.stretch-stretch.result),
-  λ T told is.
+  λ T is told.
       rw c.along-next.ensures
       (sym (first_past T told _ _ _ _ c.loop-left.invariant.0 c.loop-left-test.true c.stretch-stretch.ensures c.along-last.ensures c.word_at.ensures (is _ _ c.word_at.type_inv c.test.ensures) c.in_ok-test.was)
-      ∙ c.loop-left.invariant.1 T told is),
+      ∙ c.loop-left.invariant.1 T is told),
 )
 
 pub returns : goal.returns
 unfolding first_trouble
 returns g c = λ T is told.
     let e : c.loop-left.left ≡ 0 = omega arith in
-    rw e at (c.loop-left.invariant.1 T told is)
+    rw e at (c.loop-left.invariant.1 T is told)
