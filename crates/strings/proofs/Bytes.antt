@@ -31,7 +31,7 @@ ended (Err t) r m = troubled t
 abbrev reach : Bool → Bool → Bool → Bool → ℕ → ℕ → Result Place Trouble
 reach register first shut inside i page =
     cond (register || not shut)
-    (if_present (cond (register || inside) (Ok tt) (Err (Trouble.Absent page))) (cond register (cond first (Ok Place.A) (Ok Place.B)) (Ok (Place.Memory i))))
+    (if_present (cond (register || inside) (Ok tt) (Err (Trouble.Absent page))) (cond register (cond first Place.A Place.B) (Place.Memory i)))
     (Err Trouble.Closed)
 
 by_tests : (register first on reads stores inside : Bool) (i page : ℕ) (r : Registers) (m : List ℕ)

@@ -1,15 +1,19 @@
 -- One turn of a comparison: what the proof of the loop cites.
 --     turn               how the comparison goes on after a pair
+--     same, differs      a pair that is equal, and one that ends the comparison
 --     ordered, stopped   `exec` of a comparison by what one pair gave
 -- Assumes nothing.
-use Rattle.std.proofs.Common.{◌≡◌, ℕ, zero, suc, ◌-◌, ◌≤◌, List, arith}
+use mathlib.Core.Bool.{false≢true}
+use Rattle.std.proofs.Common.{◌≡◌, ℕ, zero, suc, ◌-◌, ◌≤◌, Bool, true, false, not, List, refl, sym, arith}
+use Rattle.std.specs.Bool.{◌==◌}
+use Rattle.std.specs.Ordering.{ordering_index}
 use Rattle.std.specs.declared.cmp.Ordering.{Ordering}
-use Rattle.acts.specs.Acts.{Act, fin, exec, troubled}
-use Rattle.strings.specs.Strings.{along, on_order, pairing, compared, comparing, Compares}
+use Rattle.acts.specs.Acts.{Act, fin, done, exec, troubled}
+use Rattle.strings.specs.Strings.{along, on_order, pairing, compared, concluded, comparing, Compares}
 use Rattle.acts.specs.declared.record.Registers.{Registers}
 use Rattle.maps.specs.declared.troubles.Trouble.{Trouble}
 use Rattle.strings.specs.declared.strings.Element.{Element}
-use Rattle.strings.specs.declared.strings.Pair.{Pair}
+use Rattle.std.specs.Prelude.{Result, Ok, Err}
 
 -- how the comparison goes on after a pair with n more to come
 abbrev pub turn : Element → ℕ → ℕ → ℕ → ℕ → Ordering → Act
@@ -22,13 +26,27 @@ turning u end s d (suc n) some =
     let e : suc n - 1 ≡ n = omega arith in
     rw e
 
-module _ (pages : List ℕ) (u : Element) (end s d n : ℕ) (r : Registers) (m : List ℕ) (some : 1 ≤ n) where
-  pub ordered : {p : Pair} {o : Ordering} → Compares pages u s d r m p → p ≡ Pair.Ordered o
-      → exec pages (comparing u end s d n) r m ≡ exec pages (turn u end s d (n - 1) o) r m
-  unfolding Compares
-  ordered h e = rw (turning u end s d n some) ((rw e at h) (turn u end s d (n - 1)))
+-- the test that an order is not `Equal`
+abbrev differing : Ordering → Bool
+differing o = not (ordering_index o == ordering_index Ordering.Equal)
 
-  pub stopped : {p : Pair} {t : Trouble} → Compares pages u s d r m p → p ≡ Pair.Ends t
+pub same : (o : Ordering) → false ≡ differing o → o ≡ Ordering.Equal
+same Ordering.Less e = absurd (false≢true e)
+same Ordering.Equal e = refl
+same Ordering.Greater e = absurd (false≢true e)
+
+pub differs : (pages : List ℕ) (u : Element) (end s d n : ℕ) (r : Registers) (m : List ℕ) (o : Ordering) → true ≡ differing o
+    → exec pages (turn u end s d n o) r m ≡ done (concluded o s end r) m
+unfolding exec
+differs pages u end s d n r m Ordering.Less e = refl
+differs pages u end s d n r m Ordering.Equal e = absurd (false≢true (sym e))
+differs pages u end s d n r m Ordering.Greater e = refl
+
+module _ (pages : List ℕ) (u : Element) (end s d n : ℕ) (r : Registers) (m : List ℕ) (some : 1 ≤ n) where
+  pub ordered : {p : Result Ordering Trouble} {o : Ordering} → Compares pages u s d r m p → p ≡ Ok o
+      → exec pages (comparing u end s d n) r m ≡ exec pages (turn u end s d (n - 1) o) r m
+  ordered h e = rw (turning u end s d n some) ((rw e at h.goes) (turn u end s d (n - 1)))
+
+  pub stopped : {p : Result Ordering Trouble} {t : Trouble} → Compares pages u s d r m p → p ≡ Err t
       → exec pages (comparing u end s d n) r m ≡ troubled t
-  unfolding Compares
-  stopped h e = rw (turning u end s d n some) ((rw e at h) (turn u end s d (n - 1)))
+  stopped h e = rw (turning u end s d n some) ((rw e at h.goes) (turn u end s d (n - 1)))

@@ -1,10 +1,15 @@
 -- A move after its tests: a stretch of elements copied by their places in memory.
 --     Copied, copied_inside, copied_fits, copied_on    how far the copy of a stretch has come; its next element, and one element on
---     Filled, filled_first, filled_on      how far a copy of words to the places one on has come; where it begins, and one word on
+--     Filled, filled, filled_all           how far a copy of words to the places one on has come: they are all the first word
 --     Placed, told, placed_on              the place of an element, and of the next on its page
 --     Moves, moves_inside, moves_stretch       how far a move has come; a stretch of it in memory; a stretch on
 -- Assumes nothing.
-use Rattle.std.proofs.Common.{◌≡◌, ℕ, zero, suc, ◌+◌, ◌-◌, ◌*◌, ◌/◌, ◌%◌, ◌<◌, ◌≤◌, List, length, get_or, set, refl, ap, ◌∙◌, arith, length-set, get_or-set_same}
+use Rattle.std.proofs.Common.{◌≡◌, ℕ, zero, suc, ◌+◌, ◌-◌, ◌*◌, ◌/◌, ◌%◌, ◌<◌, ◌≤◌, List, [], length, get_or, set, replicate, refl, sym, ap, ◌∙◌, arith, length-set, get_or-set_same}
+use lib.Seq.{paste}
+use borrow.Rule.Slice.PartMut.{put_mid}
+use Rattle.std.proofs.lemmas.List.{length-replicate}
+use Rattle.std.proofs.lemmas.List.Edits.{paste_none, fill_from_more}
+use Rattle.std.proofs.lemmas.Slice.{put_mid-paste}
 use Rattle.maps.specs.Pages.{physical_page, page_register, register_of, index_in, place}
 use Rattle.maps.proofs.Laws.{place_below}
 use Rattle.maps.specs.declared.pages.Map.{Map}
@@ -72,24 +77,47 @@ pub record Filled (i n : ℕ) (m : List ℕ) (v j n' : ℕ) (m' : List ℕ) : Ty
   pub found : get_or m' (j - 1) 0 ≡ v
   pub copied : Copied Word i (i + 1) n m (j - 1) j n' m'
 
-pub filled_first : (i n : ℕ) (m : List ℕ) → i + 1 + n ≤ length m → Filled i n m (get_or m i 0) (i + 1) n m
-filled_first i n m l =
+filled_first : (i n : ℕ) (m : List ℕ) {j : ℕ} {m' : List ℕ} → i + 1 + n ≤ length m → j ≡ i + 1 → m' ≡ m → Filled i n m (get_or m i 0) j n m'
+filled_first i n m l f g =
     let e : i + 1 - 1 ≡ i = omega arith in
-    record {
+    rw (f, g)
+    (record {
       past = omega arith;
       found = rw e;
       copied = rw e (record { lengths = refl; first = omega arith; second = l; onward = refl });
-    }
+    })
 
-pub filled_on : (i n : ℕ) (m : List ℕ) (v j n' : ℕ) (m' : List ℕ) → 0 < n' → Filled i n m v j n' m' → Filled i n m v (j + 1) (n' - 1) (set m' j v)
-filled_on i n m v j n' m' some h =
+filled_on : (i n : ℕ) (m : List ℕ) (v j n' : ℕ) (m' : List ℕ) {j' n'' : ℕ} {m'' : List ℕ} → 0 < n' → Filled i n m v j n' m'
+    → j' ≡ j + 1 → n'' ≡ n' - 1 → m'' ≡ set m' j v → Filled i n m v j' n'' m''
+filled_on i n m v j n' m' some h x y z =
     let a : j + 1 - 1 ≡ j = omega arith in
     let b : j - 1 + 1 ≡ j = omega (arith, h.past) in
-    record {
+    rw (x, y, z)
+    (record {
       past = omega arith;
       found = rw a (get_or-set_same m' j v 0 (omega (arith, h.copied.second)));
       copied = rw a (rw b at (copied_on Word i (i + 1) n m (j - 1) j n' m' some h.copied {m'' = set m' j v} (rw h.found)));
-    }
+    })
+
+-- k of them are the first word, written k times
+filled : (i n : ℕ) (m : List ℕ) → i + 1 + n ≤ length m → (k : ℕ) → k ≤ n
+    → Filled i n m (get_or m i 0) (i + 1 + k) (n - k) (paste m (i + 1) (replicate k (get_or m i 0)) k)
+filled i n m l zero b =
+    let e : n - 0 ≡ n = omega arith in
+    rw e (filled_first i n m l (omega arith) (sym (paste_none m (i + 1) [])))
+filled i n m l (suc k) b =
+    let v = get_or m i 0 in
+    let e : suc k ≡ k + 1 = omega arith in
+    filled_on i n m v (i + 1 + k) (n - k) (paste m (i + 1) (replicate k v) k) (omega arith) (filled i n m l k (omega arith)) (omega arith) (omega arith)
+    (ap (λ (q : ℕ). paste m (i + 1) (replicate q v) q) e ∙ sym (fill_from_more m (i + 1) k v (omega arith)))
+
+pub filled_all : (i n t k : ℕ) (m : List ℕ) {f : List ℕ} → i + 1 + n ≤ length m → t ≡ n → k ≡ n → f ≡ replicate k (get_or m i 0)
+    → put_mid (i + 1) t m f ≡ copies Word i (i + 1) n m
+unfolding copies
+filled_all i n t k m l e f g =
+    let z : n - n ≡ 0 = omega arith in
+    put_mid-paste (i + 1) t m _ (replicate n (get_or m i 0)) n (g ∙ ap (λ (q : ℕ). replicate q (get_or m i 0)) f) (sym e) (sym (length-replicate n (get_or m i 0)))
+    ∙ sym (rw z at (filled i n m l n (omega arith)).copied.onward)
 
 below_places : (u : Element) (i : ℕ) (m : List ℕ) → index_of u i < length m → i + 1 ≤ places_in u m
 below_places Word i m l = omega arith

@@ -2,7 +2,7 @@
 --     Bytes           how a byte store ends, by its place
 --     Comparisons     one turn of a comparison
 --     Ranges          the tests and stores of a move, element by element
---     Stretches       elements that lie on one page
+--     Stretches       elements that lie on one page, and the tests of a range by its pages
 --     Copying         a move after its tests
 --     Alike           bytes copied by whole words
 --     Touching        whether a range touches A or B, from its ends

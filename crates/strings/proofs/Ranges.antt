@@ -1,11 +1,10 @@
 -- Ranges of words and bytes: what the tests of a move tell of each element, and what moving one does.
---     open_goes, present_goes, finished    a test that is passed, a program that ends
+--     open_goes, present_goes     a test that is passed
 --     InMemory, Reaches           an element, and each of a range, is a word of memory that an access reaches
 --     reaches, ready              they are, where the tests of the range, and of a move, succeed
---     passes                      a move goes on where its tests succeed
 --     lead, move_one              the word that an access reaches; one element moved
 -- Assumes nothing.
-use Rattle.std.proofs.Common.{◌≡◌, ℕ, zero, suc, ◌+◌, ◌-◌, ◌*◌, ◌/◌, ◌%◌, ◌<◌, Bool, true, false, cond, ◌&&◌, ◌||◌, List, length, sym, refl, ◌∙◌, arith}
+use Rattle.std.proofs.Common.{◌≡◌, ℕ, zero, suc, ◌+◌, ◌-◌, ◌*◌, ◌/◌, ◌%◌, ◌<◌, Bool, true, false, cond, ◌&&◌, ◌||◌, List, length, sym, refl, ap, ◌∙◌, arith}
 use Rattle.maps.specs.Pages.{register_of, index_in, is_register, is_open, presence, spot, place}
 use Rattle.maps.specs.Access.{fetched}
 use Rattle.maps.proofs.Laws.{place_reached, open_both}
@@ -13,13 +12,11 @@ use Rattle.maps.specs.declared.pages.Map.{Map}
 use Rattle.maps.specs.declared.pages.Purpose.{Purpose}
 use Rattle.maps.specs.declared.pages.Place.{Place}
 use Rattle.maps.specs.declared.troubles.Trouble.{Trouble}
-use Rattle.acts.specs.Acts.{Act, Outcome, fin, stop, done, on_open, on_tested, exec, Ends}
-use Rattle.strings.specs.Strings.{word_at, along, purpose_of, touches, opens_all, present_all, moving, touched, all_open, all_present, tested}
+use Rattle.acts.specs.Acts.{Act, Outcome, fin, stop, done, on_open, on_tested, exec}
+use Rattle.strings.specs.Strings.{word_at, along, purpose_of, touches, opens_all, present_all, moving, all_open, all_present, tested}
 use Rattle.strings.specs.Copies.{place_in, carried}
 use Rattle.acts.specs.declared.record.Registers.{Registers}
 use Rattle.acts.specs.declared.replies.Refusal.{Refusal}
-use Rattle.acts.specs.declared.replies.Reply.{Reply}
-use Rattle.acts.specs.declared.replies.Stepped.{Stepped}
 use Rattle.strings.specs.declared.moves.Move.{Move}
 use Rattle.strings.specs.declared.strings.Element.{Element}
 use Rattle.strings.specs.declared.strings.Element.TheVariants.{Word, Byte}
@@ -47,10 +44,6 @@ present_goes (Err Trouble.Closed) x e = never (cc)
 present_goes (Err (Trouble.Absent page)) x e = never (cc)
 present_goes (Err Trouble.Endless) x e = never (cc)
 present_goes (Err Trouble.InRegisters) x e = never (cc)
-
-pub finished : (r : Registers) (m : List ℕ) {x : Outcome} {t : Registers} {q : Stepped} {l : List ℕ}
-    → x ≡ done t l → q ≡ record { reply = Reply.Completed; registers = t } → Ends r m x q l
-finished r m e f = rw e (record { outcome = f; memory = refl })
 
 module _ (pages : List ℕ) (wmap size : ℕ) (u : Element) (map : Map) (purpose : Purpose) where
   pub record InMemory (at : ℕ) : Type 0 where
@@ -86,30 +79,16 @@ abbrev pub lead : List ℕ → ℕ → Map → ℕ → ℕ
 lead pages wmap map at = index_in (register_of pages wmap map at) at
 
 module _ (pages : List ℕ) where
-  spot_memory : (wmap : ℕ) (map : Map) (at : ℕ) → is_register map at ≡ false → spot pages wmap map at ≡ Ok (Place.Memory (lead pages wmap map at))
+  spot_memory : (wmap : ℕ) (map : Map) (at : ℕ) → is_register map at ≡ false → spot pages wmap map at ≡ Place.Memory (lead pages wmap map at)
   unfolding spot
   spot_memory wmap map at e = rw e
 
   pub leads : (wmap size : ℕ) (u : Element) (map : Map) (purpose : Purpose) (at : ℕ) → InMemory pages wmap size u map purpose at
       → place pages wmap map purpose (word_at u at) size ≡ Ok (Place.Memory (lead pages wmap map (word_at u at)))
   leads wmap size u map purpose at h =
-      place_reached pages wmap map purpose (word_at u at) size h.allowed h.there ∙ spot_memory wmap map (word_at u at) h.memory
+      place_reached pages wmap map purpose (word_at u at) size h.allowed h.there ∙ ap Ok (spot_memory wmap map (word_at u at) h.memory)
 
   module _ (r : Registers) where
-    pub opens_on : (u : Element) (map : Map) (purpose : Purpose) (at n : ℕ) (k : Act) (m : List ℕ) {w : ℕ} {b b' : Bool} → 0 < n
-        → w ≡ word_at u at → b ≡ is_open pages r.wmap map purpose w → b ≡ b'
-        → exec pages (opens_all u map purpose at n k) r m ≡ on_open b' (exec pages (opens_all u map purpose (along u at 1) (n - 1) k) r m)
-    unfolding exec opens_all
-    opens_on u map purpose at zero k m l d e f = absurd (omega arith)
-    opens_on u map purpose at (suc n) k m l d e f = let o : suc n - 1 ≡ n = omega arith in rw (o, ← d, ← e, f)
-
-    pub presents_on : (u : Element) (map : Map) (at n : ℕ) (k : Act) (m : List ℕ) {w : ℕ} {p p' : Result Unit Trouble} → 0 < n
-        → w ≡ word_at u at → p ≡ presence pages r.wmap map w (length m) → p ≡ p'
-        → exec pages (present_all u map at n k) r m ≡ on_tested p' (exec pages (present_all u map (along u at 1) (n - 1) k) r m)
-    unfolding exec present_all
-    presents_on u map at zero k m l d e f = absurd (omega arith)
-    presents_on u map at (suc n) k m l d e f = let o : suc n - 1 ≡ n = omega arith in rw (o, ← d, ← e, f)
-
     opens_go : (u : Element) (map : Map) (purpose : Purpose) (at n : ℕ) (k : Act) (m : List ℕ) {s : Registers} {l : List ℕ}
         → exec pages (opens_all u map purpose at n k) r m ≡ done s l → exec pages k r m ≡ done s l
     unfolding exec opens_all
@@ -157,16 +136,6 @@ module _ (pages : List ℕ) where
               reaches j.element j.from Purpose.Read j.source j.count _ _ m a f h,
               reaches j.element j.to (purpose_of j.element) j.target j.count _ _ m b g i,
             )
-
-    -- the tests of a move told to succeed
-    pub passes : (j : Move) (m : List ℕ) (k : Act) {x o : Bool} {p : Result Unit Trouble}
-        → x ≡ touched j → x ≡ false
-        → ((m : List ℕ) (k : Act) → exec pages (all_open j k) r m ≡ on_open o (exec pages k r m))
-        → o ≡ true
-        → ((k : Act) → exec pages (all_present j k) r m ≡ on_tested p (exec pages k r m))
-        → p ≡ Ok tt
-        → exec pages (tested j k) r m ≡ exec pages k r m
-    passes j m k e g h i q l = rw (← e, g) (h m _ ∙ (rw i (q k ∙ (rw l))))
 
     -- one element moved, whose word and whose target an access reaches
     pub move_one : (u : Element) (from to : Map) (s d n : ℕ) (k : Act) (m : List ℕ)

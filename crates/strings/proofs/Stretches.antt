@@ -1,21 +1,21 @@
 -- Elements that lie on one page, a stretch of them at a time.
---     along_on, OnPage, page_on   the elements of a stretch, and their page
---     touches_past, opens_past, presents_past    what is left of a range after a stretch
---     present_below               on a page, what lies below a word that is present is present
+--     along_on, OnPage, page_on       the elements of a stretch, and their page
+--     first_past                      the first trouble of a range: that of the last element of a stretch, or it lies past it
+--     open_told, present_told         protection and presence are told by pages
+--     opens_first, presents_first     `exec` of the tests of a range, by its first trouble
 -- Assumes nothing.
-use Rattle.std.proofs.Common.{◌≡◌, ℕ, zero, suc, ◌+◌, ◌-◌, ◌/◌, ◌%◌, ◌<◌, ◌≤◌, Bool, true, false, cond, ltb, ◌⊎◌, List, length, sym, refl, ap, ◌∙◌, inl, inr, arith, ltb-false, ltb-true}
+use Rattle.std.proofs.Common.{◌≡◌, ℕ, zero, suc, ◌+◌, ◌-◌, ◌/◌, ◌%◌, ◌<◌, ◌≤◌, Bool, true, false, ltb, ◌⊎◌, List, length, sym, refl, ap, ◌∙◌, inl, inr, arith, ltb-false, ltb-true, le-ltb}
 use Rattle.maps.specs.Pages.{physical_page, register_of, page_register, index_in, is_register, is_open, presence}
 use Rattle.maps.proofs.Laws.{open_by_page}
 use Rattle.maps.specs.declared.pages.Map.{Map}
 use Rattle.maps.specs.declared.pages.Purpose.{Purpose}
 use Rattle.maps.specs.declared.troubles.Trouble.{Trouble}
-use Rattle.acts.specs.Acts.{Act, Outcome, on_tested, exec}
-use Rattle.strings.specs.Strings.{word_at, along, touches, opens_all, present_all}
-use Rattle.strings.specs.Copies.{per_page, Stretch}
+use Rattle.acts.specs.Acts.{Act, Outcome, on_open, on_tested, exec}
+use Rattle.strings.specs.Strings.{word_at, along, opens_all, present_all}
+use Rattle.strings.specs.Copies.{per_page, Stretch, met_first, first_trouble, ToldByPages}
 use Rattle.acts.specs.declared.record.Registers.{Registers}
 use Rattle.strings.specs.declared.strings.Element.{Element}
 use Rattle.strings.specs.declared.strings.Element.TheVariants.{Word, Byte}
-use Rattle.strings.proofs.Ranges.{or_false, opens_on, presents_on}
 use Rattle.std.specs.Prelude.{Result, Ok, Err}
 
 pub along_on : (u : Element) (at j : ℕ) → along u (along u at 1) j ≡ along u at (suc j)
@@ -48,108 +48,111 @@ page_on Byte at j l =
       rises = rw (bytes_offset at, bytes_offset y) (omega arith);
     }
 
--- the first element of a range that touches no register, and the others
-apart : (u : Element) (map : Map) (at n : ℕ) → 0 < n → touches u map at n ≡ false
-    → (is_register map (word_at u at) ≡ false) × (touches u map (along u at 1) (n - 1) ≡ false)
-unfolding touches
-apart u map at zero l e = absurd (omega arith)
-apart u map at (suc n) l e = let f : suc n - 1 ≡ n = omega arith in rw f (or_false (is_register map (word_at u at)) _ e)
+pub along_fits : (u : Element) (at n : ℕ) → along u at n < 65536
+along_fits Word at n = omega arith
+along_fits Byte at n = omega arith
 
-touches_rest : (u : Element) (map : Map) (at j n : ℕ) → suc j ≤ n → touches u map at n ≡ false
-    → touches u map (along u at (suc j)) (n - suc j) ≡ false
-touches_rest u map at zero n l e = (apart u map at n (omega arith) e).1
-touches_rest u map at (suc j) n l e =
-    let f : n - 1 - suc j ≡ n - suc (suc j) = omega arith in
-    rw (← along_on u at (suc j), ← f) (touches_rest u map (along u at 1) j (n - 1) (omega arith) (apart u map at n (omega arith) e).1)
+start : (u : Element) (at : ℕ) → at < 65536 → word_at u (along u at 0) ≡ word_at u at
+start Word at b = omega arith
+start Byte at b = ap (λ (x : ℕ). x / 2) (omega arith)
 
-pub touches_past : (u : Element) (map : Map) (at n t : ℕ) → 0 < n → Stretch u at n t → touches u map at n ≡ false
-    → touches u map (along u at t) (n - t) ≡ false
-touches_past u map at n zero l h e = absurd (omega (arith, h.some l))
-touches_past u map at n (suc j) l h e = touches_rest u map at j n h.within e
+module _ (test : ℕ → Result Unit Trouble) (h : ToldByPages test) (u : Element) where
+  first_on : (at n : ℕ) → 0 < n → first_trouble test u at n ≡ met_first (test (word_at u at)) (first_trouble test u (along u at 1) (n - 1))
+  unfolding first_trouble
+  first_on at zero l = absurd (omega arith)
+  first_on at (suc n) l = let f : suc n - 1 ≡ n = omega arith in rw f
 
-module _ (pages : List ℕ) (r : Registers) where
-  opens_stretch : (u : Element) (map : Map) (purpose : Purpose) (at j n : ℕ) (k : Act) (m : List ℕ)
-      → suc j ≤ n → at % per_page u + suc j ≤ per_page u → touches u map at n ≡ false
-      → is_open pages r.wmap map purpose (word_at u at) ≡ true
-      → exec pages (opens_all u map purpose at n k) r m ≡ exec pages (opens_all u map purpose (along u at (suc j)) (n - suc j) k) r m
-  opens_stretch u map purpose at zero n k m l p t o = opens_on pages r u map purpose at n k m (omega arith) refl refl o
-  opens_stretch u map purpose at (suc j) n k m l p t o =
-      let q = page_on u at 1 (omega arith) in
-      let x = apart u map at n (omega arith) t in
-      let y = apart u map (along u at 1) (n - 1) (omega arith) x.1 in
-      let z = open_by_page pages r.wmap map (word_at u at) (word_at u (along u at 1)) x.0 y.0 q.page purpose in
-      let f : n - 1 - suc j ≡ n - suc (suc j) = omega arith in
-      rw (← along_on u at (suc j), ← f)
-      (opens_on pages r u map purpose at n k m (omega arith) refl refl o
-      ∙ opens_stretch u map purpose (along u at 1) j (n - 1) k m (omega arith) (omega (arith, q.next)) x.1 (sym z ∙ o))
-
-  -- on a page, what lies below a word that is present is present; below an absent one the same page may be
-  present_below : (wmap : ℕ) (map : Map) (x y size : ℕ) {p : Result Unit Trouble} → is_register map x ≡ false → is_register map y ≡ false
-      → x / 1024 % 32 ≡ y / 1024 % 32 → x % 1024 ≤ y % 1024 → presence pages wmap map y size ≡ p
-      → (presence pages wmap map x size ≡ Ok tt) ⊎ (presence pages wmap map x size ≡ p)
-  unfolding presence
-  present_below wmap map x y size {p} one two same l e =
-      go (ltb (index_in (register_of pages wmap map x) x) size) (ltb (index_in (register_of pages wmap map y) y) size) refl refl (rw two at e)
+  first_stretch : (at j n : ℕ) → at < 65536 → suc j ≤ n → at % per_page u + suc j ≤ per_page u
+      → first_trouble test u at n ≡ met_first (test (word_at u (along u at j))) (first_trouble test u (along u at (suc j)) (n - suc j))
+  first_stretch at zero n b l p =
+      first_on at n (omega arith) ∙ ap (λ (w : ℕ). met_first (test w) (first_trouble test u (along u at 1) (n - 1))) (sym (start u at b))
+  first_stretch at (suc j) n b l p =
+      let v = page_on u at (suc j) (omega arith) in
+      let g = page_on u at 1 (omega arith) in
+      let o : n - 1 - suc j ≡ n - suc (suc j) = omega arith in
+      let e = first_stretch (along u at 1) j (n - 1) (along_fits u at 1) (omega arith) (omega (arith, g.next)) in
+      go _ _ (rw (along_on u at j, along_on u at (suc j), o) at e) (h.told (word_at u at) (word_at u (along u at (suc j))) v.page v.rises)
     where
-      go : (a b : Bool) → ltb (index_in (register_of pages wmap map x) x) size ≡ a → ltb (index_in (register_of pages wmap map y) y) size ≡ b
-          → cond b (Ok tt) (Err (Trouble.Absent (physical_page (register_of pages wmap map y)))) ≡ p
-          → (presence pages wmap map x size ≡ Ok tt) ⊎ (presence pages wmap map x size ≡ p)
-      go true b f g h = inl (rw (one, f))
-      go false false f g h = inr (rw (one, f, same) h)
-      go false true f g h =
+      go : (p z : Result Unit Trouble) → first_trouble test u (along u at 1) (n - 1) ≡ met_first p z
+          → (test (word_at u at) ≡ Ok tt) ⊎ (test (word_at u at) ≡ p)
+          → first_trouble test u at n ≡ met_first p z
+      go p z e (inl f) = first_on at n (omega arith) ∙ (rw f e)
+      go (Ok tt) z e (inr f) = first_on at n (omega arith) ∙ (rw f e)
+      go (Err t) z e (inr f) = first_on at n (omega arith) ∙ (rw f)
+
+  pub first_past : (at n t : ℕ) {last w : ℕ} {p p' : Result Unit Trouble} → at < 65536 → 0 < n → Stretch u at n t
+      → last ≡ along u at (t - 1) → w ≡ word_at u last → p ≡ test w → p ≡ p'
+      → first_trouble test u at n ≡ met_first p' (first_trouble test u (along u at t) (n - t))
+  first_past at n zero b l s c d e f = absurd (omega (arith, s.some l))
+  first_past at n (suc j) b l s c d e f =
+      let o : suc j - 1 ≡ j = omega arith in
+      let c' = rw o at c in
+      rw (← f, e, d, c') (first_stretch at j n b s.within s.page)
+
+-- the test of protection as one that meets trouble
+abbrev pub opening : Bool → Result Unit Trouble
+opening true = Ok tt
+opening false = Err Trouble.Closed
+
+-- on a page, what lies above a word of memory is no register
+memory_above : (map : Map) (x y : ℕ) → x / 1024 % 32 ≡ y / 1024 % 32 → x % 1024 ≤ y % 1024 → is_register map x ≡ false → is_register map y ≡ false
+memory_above Map.Execute x y same l e = le-ltb (y % 0o100000) 2 (omega (arith, ltb-false (x % 0o100000) 2 e))
+memory_above Map.Data1 x y same l e = refl
+memory_above Map.Data2 x y same l e = refl
+
+module _ (pages : List ℕ) (wmap : ℕ) where
+  pub open_told : (map : Map) (purpose : Purpose) → ToldByPages (λ x. opening (is_open pages wmap map purpose x))
+  unfolding is_open
+  open_told map purpose = record { told = λ x y same l. go x y same l (is_register map x) refl }
+    where
+      go : (x y : ℕ) → x / 1024 % 32 ≡ y / 1024 % 32 → x % 1024 ≤ y % 1024 → (b : Bool) → is_register map x ≡ b
+          → (opening (is_open pages wmap map purpose x) ≡ Ok tt) ⊎ (opening (is_open pages wmap map purpose x) ≡ opening (is_open pages wmap map purpose y))
+      go x y same l true e = inl (rw e)
+      go x y same l false e = inr (ap opening (open_by_page pages wmap map x y e (memory_above map x y same l e) same purpose))
+
+  -- below a word that is present each is present; below an absent one the same page may be
+  pub present_told : (map : Map) (size : ℕ) → ToldByPages (λ x. presence pages wmap map x size)
+  unfolding presence
+  present_told map size = record { told = λ x y same l. go x y same l (is_register map x) refl }
+    where
+      below : (x y : ℕ) → x / 1024 % 32 ≡ y / 1024 % 32 → x % 1024 ≤ y % 1024 → is_register map x ≡ false → is_register map y ≡ false
+          → (a b : Bool) → ltb (index_in (register_of pages wmap map x) x) size ≡ a → ltb (index_in (register_of pages wmap map y) y) size ≡ b
+          → (presence pages wmap map x size ≡ Ok tt) ⊎ (presence pages wmap map x size ≡ presence pages wmap map y size)
+      below x y same l one two true b f g = inl (rw (one, f))
+      below x y same l one two false false f g = inr (rw (one, two, f, g, same))
+      below x y same l one two false true f g =
           let i = ltb-true _ size g in
           let j = ltb-false (index_in (register_of pages wmap map x) x) size f in
           let q : register_of pages wmap map x ≡ register_of pages wmap map y = ap (page_register pages wmap map) same in
           absurd (omega (arith, ap physical_page q))
 
-  presents_stretch : (u : Element) (map : Map) (at j n : ℕ) (k : Act) (m : List ℕ) (p : Result Unit Trouble) → at < 65536
-      → suc j ≤ n → at % per_page u + suc j ≤ per_page u → touches u map at n ≡ false
-      → presence pages r.wmap map (word_at u (along u at j)) (length m) ≡ p
-      → exec pages (present_all u map at n k) r m ≡ on_tested p (exec pages (present_all u map (along u at (suc j)) (n - suc j) k) r m)
-  presents_stretch u map at zero n k m p b l q t e = presents_on pages r u map at n k m (omega arith) (start u at b) refl e
+      go : (x y : ℕ) → x / 1024 % 32 ≡ y / 1024 % 32 → x % 1024 ≤ y % 1024 → (b : Bool) → is_register map x ≡ b
+          → (presence pages wmap map x size ≡ Ok tt) ⊎ (presence pages wmap map x size ≡ presence pages wmap map y size)
+      go x y same l true e = inl (rw e)
+      go x y same l false e = below x y same l e (memory_above map x y same l e) _ _ refl refl
+
+module _ (pages : List ℕ) (r : Registers) where
+  -- the tests of a range as programs end as its first trouble tells
+  pub opens_first : (u : Element) (map : Map) (purpose : Purpose) (at n : ℕ) (k : Act) (m : List ℕ)
+      → exec pages (opens_all u map purpose at n k) r m
+      ≡ on_tested (first_trouble (λ x. opening (is_open pages r.wmap map purpose x)) u at n) (exec pages k r m)
+  unfolding exec opens_all first_trouble
+  opens_first u map purpose at zero k m = refl
+  opens_first u map purpose at (suc n) k m = go (is_open pages r.wmap map purpose (word_at u at)) _ _ (opens_first u map purpose (along u at 1) n k m)
     where
-      start : (u : Element) (at : ℕ) → at < 65536 → word_at u (along u at 0) ≡ word_at u at
-      start Word at b = omega arith
-      start Byte at b = ap (λ (x : ℕ). x / 2) (omega arith)
-  presents_stretch u map at (suc j) n k m p b l q t e =
-      let x = apart u map at n (omega arith) t in
-      let y = apart u map (along u at (suc j)) (n - suc j) (omega arith) (touches_rest u map at j n (omega arith) t) in
-      let v = page_on u at (suc j) (omega arith) in
-      let g = page_on u at 1 (omega arith) in
-      let o : n - 1 - suc j ≡ n - suc (suc j) = omega arith in
-      let h = presents_stretch u map (along u at 1) j (n - 1) k m p (below u at) (omega arith) (omega (arith, g.next)) x.1 (rw (along_on u at j) e) in
-      go p _ (rw (along_on u at (suc j), o) at h)
-      (present_below r.wmap map (word_at u at) (word_at u (along u at (suc j))) (length m) x.0 y.0 v.page v.rises e)
+      go : (b : Bool) (p : Result Unit Trouble) (x : Outcome) → x ≡ on_tested p (exec pages k r m)
+          → on_open b x ≡ on_tested (met_first (opening b) p) (exec pages k r m)
+      go true p x e = e
+      go false p x e = refl
+
+  pub presents_first : (u : Element) (map : Map) (at n : ℕ) (k : Act) (m : List ℕ)
+      → exec pages (present_all u map at n k) r m
+      ≡ on_tested (first_trouble (λ x. presence pages r.wmap map x (length m)) u at n) (exec pages k r m)
+  unfolding exec present_all first_trouble
+  presents_first u map at zero k m = refl
+  presents_first u map at (suc n) k m = go (presence pages r.wmap map (word_at u at) (length m)) _ _ (presents_first u map (along u at 1) n k m)
     where
-      below : (u : Element) (at : ℕ) → along u at 1 < 65536
-      below Word at = omega arith
-      below Byte at = omega arith
-
-      go : (p : Result Unit Trouble) (z : Outcome) → exec pages (present_all u map (along u at 1) (n - 1) k) r m ≡ on_tested p z
-          → (presence pages r.wmap map (word_at u at) (length m) ≡ Ok tt) ⊎ (presence pages r.wmap map (word_at u at) (length m) ≡ p)
-          → exec pages (present_all u map at n k) r m ≡ on_tested p z
-      go p z h (inl f) = presents_on pages r u map at n k m (omega arith) refl refl f ∙ h
-      go (Ok tt) z h (inr f) = presents_on pages r u map at n k m (omega arith) refl refl f ∙ h
-      go (Err t) z h (inr f) = presents_on pages r u map at n k m (omega arith) refl refl f
-
-  pub opens_past : (u : Element) (map : Map) (purpose : Purpose) (at n t : ℕ) (k : Act) (m : List ℕ) {w : ℕ} {b : Bool} → 0 < n
-      → Stretch u at n t → touches u map at n ≡ false
-      → w ≡ word_at u at → b ≡ is_open pages r.wmap map purpose w → b ≡ true
-      → exec pages (opens_all u map purpose at n k) r m ≡ exec pages (opens_all u map purpose (along u at t) (n - t) k) r m
-  opens_past u map purpose at n zero k m l h t d e f = absurd (omega (arith, h.some l))
-  opens_past u map purpose at n (suc j) k m l h t d e f =
-      opens_stretch u map purpose at j n k m h.within h.page t (rw (← d) (sym e ∙ f))
-
-  pub presents_past : (u : Element) (map : Map) (at n t : ℕ) (k : Act) (m : List ℕ) {last w : ℕ} {p p' : Result Unit Trouble} → 0 < n
-      → Stretch u at n t → touches u map at n ≡ false → at < 65536
-      → last ≡ along u at (t - 1) → w ≡ word_at u last → p ≡ presence pages r.wmap map w (length m) → p ≡ p'
-      → exec pages (present_all u map at n k) r m ≡ on_tested p' (exec pages (present_all u map (along u at t) (n - t) k) r m)
-  presents_past u map at n zero k m l h t b c d e f = absurd (omega (arith, h.some l))
-  presents_past u map at n (suc j) k m {last} {w} {p} {p'} l h t b c d e f =
-      let o : suc j - 1 ≡ j = omega arith in
-      let c' = rw o at c in
-      presents_stretch u map at j n k m p' b h.within h.page t (rw (← c', ← d) (sym e ∙ f))
-
-pub along_fits : (u : Element) (at n : ℕ) → along u at n < 65536
-along_fits Word at n = omega arith
-along_fits Byte at n = omega arith
+      go : (b p : Result Unit Trouble) (x : Outcome) → x ≡ on_tested p (exec pages k r m)
+          → on_tested b x ≡ on_tested (met_first b p) (exec pages k r m)
+      go (Ok tt) p x e = e
+      go (Err t) p x e = refl

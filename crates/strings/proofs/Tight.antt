@@ -4,12 +4,12 @@
 use Rattle.std.proofs.Common.{sym, ◌∙◌}
 use Rattle.word.proofs.Tight.{OneResult}
 use Rattle.acts.proofs.Tight.{OneMemory, ends_tight, gives_tight}
-use Rattle.strings.proofs.strings.word_at.Kinds as word_at
-use Rattle.strings.proofs.strings.word_at.Reads as word_at_reads
-use Rattle.strings.proofs.strings.go_along.Kinds as go_along
-use Rattle.strings.proofs.strings.go_along.Reads as go_along_reads
-use Rattle.strings.proofs.strings.get_element.Kinds as get_element
-use Rattle.strings.proofs.strings.get_element.Reads as get_element_reads
+use Rattle.strings.proofs.strings.Element.word_at.Kinds as word_at
+use Rattle.strings.proofs.strings.Element.word_at.Reads as word_at_reads
+use Rattle.strings.proofs.strings.Element.along.Kinds as along
+use Rattle.strings.proofs.strings.Element.along.Reads as along_reads
+use Rattle.strings.proofs.strings.Element.load.Kinds as load
+use Rattle.strings.proofs.strings.Element.load.Reads as load_reads
 use Rattle.strings.proofs.strings.is_none.Kinds as is_none
 use Rattle.strings.proofs.strings.is_none.Reads as is_none_reads
 use Rattle.strings.proofs.strings.count_at.Kinds as count_at
@@ -30,11 +30,11 @@ use Rattle.strings.proofs.moves.move_string.Reads as move_string_reads
 pub word_at_tight : OneResult 0 word_at.ps word_at.r word_at_reads.Post
 word_at_tight κs a x y s t p q = p ∙ sym q
 
-pub go_along_tight : OneResult 0 go_along.ps go_along.r go_along_reads.Post
-go_along_tight κs a x y s t p q = p ∙ sym q
+pub along_tight : OneResult 0 along.ps along.r along_reads.Post
+along_tight κs a x y s t p q = p ∙ sym q
 
-pub get_element_tight : OneResult 2 get_element.ps get_element.r get_element_reads.Post
-get_element_tight κs a x y s t p q = gives_tight x y p q
+pub load_tight : OneResult 2 load.ps load.r load_reads.Post
+load_tight κs a x y s t p q = gives_tight x y p q
 
 pub is_none_tight : OneResult 0 is_none.ps is_none.r is_none_reads.Post
 is_none_tight κs a x y s t p q = p ∙ sym q

@@ -1,12 +1,17 @@
--- Elements of memory copied to others, by their places in memory: what the functions of `src/moves.rt` promise each other.
+-- A range tested page by page, and elements of memory copied to others, by their places in memory: what the functions of
+-- `src/moves.rt` promise each other.
 -- Words are counted by their index; bytes two to a word, the high one first. No rule cites this.
 --     per_page, Stretch                the elements of a page; a stretch of elements on one page
+--     Test, Answers                    a test of words, and what a function answers that makes it
+--     first_trouble, ToldByPages       the first trouble that it meets in a range; a test that the last word on a page tells
 --     place_in, index_of, places_in    places: of an address, a word, a memory
 --     carried, copies                  one element copied; several, one after another
 -- Assumes nothing.
-use Rattle.std.specs.Prelude.{ℕ, zero, suc, ◌+◌, ◌*◌, ◌/◌, ◌%◌, ◌<◌, ◌≤◌, List, length, slice_index, slice_set}
+use Rattle.std.specs.Prelude.{◌≡◌, ◌⊎◌, ℕ, zero, suc, ◌+◌, ◌*◌, ◌/◌, ◌%◌, ◌<◌, ◌≤◌, List, length, slice_index, slice_set, Result, Ok, Err}
 use Rattle.word.specs.Words.{byte_of, with_byte}
 use Rattle.maps.specs.Bytes.{is_low_byte}
+use Rattle.maps.specs.declared.troubles.Trouble.{Trouble}
+use Rattle.strings.specs.Strings.{word_at, along}
 use Rattle.strings.specs.declared.strings.Element.{Element}
 use Rattle.strings.specs.declared.strings.Element.TheVariants.{Word, Byte}
 
@@ -19,6 +24,26 @@ pub record Stretch (u : Element) (at left t : ℕ) : Type 0 where
   pub within : t ≤ left
   pub page : at % per_page u + t ≤ per_page u
   pub some : 0 < left → 0 < t
+
+-- a test of words by their addresses, and what a function answers that makes it
+abbrev pub Test : Type 0
+Test = ℕ → Result Unit Trouble
+
+abbrev pub Answers : Test → (ℕ → Result Unit Trouble → Type 0) → Type 0
+Answers test answer = (x : ℕ) (y : Result Unit Trouble) → x < 65536 → answer x y → y ≡ test x
+
+-- the first trouble that a test meets in a range
+abbrev pub met_first : Result Unit Trouble → Result Unit Trouble → Result Unit Trouble
+met_first (Ok tt) later = later
+met_first (Err t) later = Err t
+
+unfoldable pub first_trouble : Test → Element → ℕ → ℕ → Result Unit Trouble
+first_trouble test u at zero = Ok tt
+first_trouble test u at (suc n) = met_first (test (word_at u at)) (first_trouble test u (along u at 1) n)
+
+-- on a page, a word passes a test, or meets the trouble that each later word there meets
+pub record ToldByPages (test : Test) : Type 0 where
+  pub told : (x y : ℕ) → x / 1024 % 32 ≡ y / 1024 % 32 → x % 1024 ≤ y % 1024 → (test x ≡ Ok tt) ⊎ (test x ≡ test y)
 
 -- the place of an element at an address, whose word has an index
 abbrev pub place_in : Element → ℕ → ℕ → ℕ

@@ -4,10 +4,10 @@
 --     touches, opens_all, present_all, moving  a range: reply 5, protection, presence; the move itself
 --     touched .. tested                      the tests before a move
 --     carrying, moved, past_ranges, comparing    the whole of a move, and of a comparison
---     Compares, concluded                    what functions promise of one pair, and of what a comparison found
+--     Compares, concluded                    what functions promise of one pair, and what follows a comparison
 --     byte_loaded, byte_stored, move_act, compare_act, mask_act    the instructions
 -- Assumes nothing.
-use Rattle.std.specs.Prelude.{◌≡◌, ℕ, zero, suc, ◌+◌, ◌%◌, Bool, false, cond, not, ◌||◌, List, [], ◌==◌, bit_or}
+use Rattle.std.specs.Prelude.{◌≡◌, ℕ, zero, suc, ◌+◌, ◌%◌, Bool, false, cond, not, ◌||◌, List, ◌==◌, bit_or, Result, Ok, Err}
 use Rattle.word.specs.Words.{bit, weight, byte_of, with_byte, bits_cleared, every_bit_set}
 use Rattle.word.specs.Sums.{address}
 use Rattle.word.specs.Orders.{order_of_words, order_of_bytes}
@@ -17,15 +17,13 @@ use Rattle.maps.specs.Bytes.{byte_word, is_low_byte}
 use Rattle.maps.specs.declared.pages.Map.{Map}
 use Rattle.maps.specs.declared.pages.Map.TheVariants.{Execute}
 use Rattle.maps.specs.declared.pages.Purpose.{Purpose}
+use Rattle.maps.specs.declared.troubles.Trouble.{Trouble}
 use Rattle.code.specs.declared.codes.Bits.{Bits}
 use Rattle.code.specs.declared.codes.Bits.TheVariants.{Sbs, Cbs, Tbs}
 use Rattle.acts.specs.Record.{with_a, with_b, ahead}
-use Rattle.acts.specs.Acts.{Act, fin, stop, load, save, opened, present, operand, done, exec, answer, troubled, go_on}
+use Rattle.acts.specs.Acts.{Act, Outcome, fin, stop, load, save, opened, present, operand, exec, troubled, go_on}
 use Rattle.acts.specs.declared.record.Registers.{Registers}
 use Rattle.acts.specs.declared.replies.Refusal.{Refusal}
-use Rattle.acts.specs.declared.replies.Stepped.{Stepped}
-use Rattle.strings.specs.declared.strings.Pair.{Pair}
-use Rattle.strings.specs.declared.strings.Found.{Found}
 use Rattle.strings.specs.declared.moves.Move.{Move}
 use Rattle.strings.specs.declared.strings.Element.{Element}
 use Rattle.strings.specs.declared.strings.Element.TheVariants.{Word, Byte}
@@ -126,16 +124,19 @@ comparing u end s d zero = fin (compared 3 s end)
 comparing u end s d (suc n) =
     pairing u s d (λ o. on_order o (fin (compared 4 s end)) (comparing u end (along u s 1) (along u d 1) n) (fin (compared 5 s end)))
 
--- what the functions of `src/strings.rt` promise of one pair, however the comparison goes on, and of what a comparison found
-unfoldable pub Compares : List ℕ → Element → ℕ → ℕ → Registers → List ℕ → Pair → Type 0
-Compares pages u s d r m (Pair.Ordered o) = (k : Ordering → Act) → exec pages (pairing u s d k) r m ≡ exec pages (k o) r m
-Compares pages u s d r m (Pair.Ends t) = (k : Ordering → Act) → exec pages (pairing u s d k) r m ≡ troubled t
+-- what a function promises of one pair: however the comparison goes on, it does so with the order, or has ended
+abbrev pub on_compared : Result Ordering Trouble → (Ordering → Outcome) → Outcome
+on_compared (Ok o) k = k o
+on_compared (Err t) k = troubled t
 
-abbrev pub concluded : Found → ℕ → Registers → Stepped
-concluded (Found.Equal at) end r = answer r (done (compared 3 at end r) [])
-concluded (Found.Smaller at) end r = answer r (done (compared 4 at end r) [])
-concluded (Found.Greater at) end r = answer r (done (compared 5 at end r) [])
-concluded (Found.Ends t) end r = answer r (troubled t)
+pub record Compares (pages : List ℕ) (u : Element) (s d : ℕ) (r : Registers) (m : List ℕ) (g : Result Ordering Trouble) : Type 0 where
+  pub goes : (k : Ordering → Act) → exec pages (pairing u s d k) r m ≡ on_compared g (λ o. exec pages (k o) r m)
+
+-- the registers that follow a comparison, by what it found and where
+abbrev pub concluded : Ordering → ℕ → ℕ → Registers → Registers
+concluded Ordering.Equal at end r = compared 3 at end r
+concluded Ordering.Less at end r = compared 4 at end r
+concluded Ordering.Greater at end r = compared 5 at end r
 
 -- 01, LBT and SBT: "byte address in B, even is the high byte; B rises by one. LBT clears A's high byte."
 abbrev pub byte_loaded : Registers → Act

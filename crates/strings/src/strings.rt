@@ -1,180 +1,167 @@
 // Words and bytes, single and compared in strings, and the masks.
 ghost use Rattle.std.specs.Prelude.{◌≡◌};
 ghost use Rattle.acts.specs.Acts.{load, Performs, Gives};
-ghost use Rattle.strings.specs.Strings.{word_at, along, value_of, order_of, load_element, compared, comparing};
+ghost use Rattle.strings.specs.Strings.{word_at, along, value_of, order_of, load_element, comparing};
 ghost use Rattle.strings.specs.Strings.{Compares, concluded, byte_loaded, byte_stored, none_to_do, count};
 ghost use Rattle.strings.specs.Strings.{compare_act, masked, mask_act};
 
-use std::cmp::Ordering;
-
 use acts::reads::get_address;
-use acts::record::{Registers, go_ahead, go_to, set_register, skipping};
-use acts::replies::{Stepped, completed, stop_by};
+use acts::record::Registers;
+use acts::replies::{Refusal, Stop};
 use acts::stores::put;
 use code::codes::{Bits, Register};
-use maps::access::read_word;
 use maps::bytes::{byte_word, is_low_byte};
 use maps::pages::{Map, Place, Purpose, is_register, place_of};
-use maps::troubles::{Got, Trouble};
+use maps::troubles::Trouble;
+use std::cmp::Ordering;
 use word::bits::{byte_of, clear_bits, every_bit_set, with_byte};
 use word::orders::{compare_bytes, compare_words};
 use word::sums::past;
 
+// The word at an address of the Execute map.
+#[tactic(auto, unfolding(acts::specs::Acts::exec))]
+fn load_word(at: u16, r: Registers, pages: &[u16], memory: &[u16]) -> Result<u16, Trouble>
+    ensures { Gives pages.now (load Map.Execute at) r memory.now result }
+{
+    r.read(Map::Execute, at, pages, memory)
+}
+
 // What a string is made of.
-#[derive(Clone, Copy)]
+#[derive(Clone, Copy, Debug, PartialEq, Eq)]
 pub enum Element {
     Word,
     Byte,
 }
 
-// The address of the word that holds an element.
-pub(crate) fn word_at(u: Element, at: u16) -> u16
-    ensures { result ≡ word_at u at }
-{
-    match u {
-        Element::Word => at % 0o100000,
-        Element::Byte => byte_word(at),
+impl Element {
+    // The address of the word that holds an element.
+    pub(crate) fn word_at(self, at: u16) -> u16
+        ensures { result ≡ word_at self at }
+    {
+        match self {
+            Element::Word => at % 0o100000,
+            Element::Byte => byte_word(at),
+        }
     }
-}
 
-// The address n elements past another.
-pub(crate) fn go_along(u: Element, at: u16, n: u16) -> u16
-    ensures { result ≡ along u at n }
-{
-    match u {
-        Element::Word => past(at, n),
-        Element::Byte => std::num::wrapping_add_u16(at, n),
+    // The address n elements past another.
+    pub(crate) fn along(self, at: u16, n: u16) -> u16
+        ensures { result ≡ along self at n }
+    {
+        match self {
+            Element::Word => past(at, n),
+            Element::Byte => at.wrapping_add(n),
+        }
     }
-}
 
-// The word that holds an element, which may not be A or B.
-pub(crate) fn get_element(u: Element, at: u16, r: Registers, pages: &[u16], memory: &[u16]) -> Got
-    ensures { Gives pages.now (load_element u at) r memory.now result }
-{
-    let holder = word_at(u, at);
-    if is_register(Map::Execute, holder) {
-        return Got::Ends(Trouble::InRegisters);
+    // The word that holds an element, which may not be A or B.
+    pub(crate) fn load(
+        self,
+        at: u16,
+        r: Registers,
+        pages: &[u16],
+        memory: &[u16],
+    ) -> Result<u16, Trouble>
+        ensures { Gives pages.now (load_element self at) r memory.now result }
+    {
+        let holder = self.word_at(at);
+        if is_register(Map::Execute, holder) {
+            return Err(Trouble::InRegisters);
+        }
+        load_word(holder, r, pages, memory)
     }
-    read_word(pages, memory, r.wmap, Map::Execute, holder, r.a, r.b)
+
+    // The order of the elements at s and d, whose words are v and w.
+    fn order(self, s: u16, v: u16, d: u16, w: u16) -> Ordering
+        ensures { result ≡ order_of self (value_of self s v) (value_of self d w) }
+    {
+        match self {
+            Element::Word => compare_words(v, w),
+            Element::Byte => compare_bytes(byte_of(is_low_byte(s), v), byte_of(is_low_byte(d), w)),
+        }
+    }
+
+    // How one pair compares, or what ends the step.
+    fn compare(
+        self,
+        s: u16,
+        d: u16,
+        r: Registers,
+        pages: &[u16],
+        memory: &[u16],
+    ) -> Result<Ordering, Trouble>
+        ensures { Compares pages.now self s d r memory.now result }
+    {
+        let v = self.load(s, r, pages, memory)?;
+        let w = self.load(d, r, pages, memory)?;
+        Ok(self.order(s, v, d, w))
+    }
 }
 
 // Whether a count is 0 or has bit 15 set.
 pub(crate) fn is_none(count: u16) -> bool
     ensures { result ≡ none_to_do count }
 {
-    count == 0 || count / 32768 % 2 == 1
+    count == 0 || count / 0o100000 % 2 == 1
 }
 
 // The count of a string instruction.
-pub(crate) fn count_at(r: Registers, pages: &[u16], memory: &[u16]) -> Got
+pub(crate) fn count_at(r: Registers, pages: &[u16], memory: &[u16]) -> Result<u16, Trouble>
     ensures { Gives pages.now (count r) r memory.now result }
 {
-    match get_address(1, r, pages, memory) {
-        Got::Value(at) => read_word(pages, memory, r.wmap, Map::Execute, at, r.a, r.b),
-        Got::Ends(t) => Got::Ends(t),
-    }
+    let at = get_address(1, r, pages, memory)?;
+    load_word(at, r, pages, memory)
 }
 
 // LBT
-pub fn load_byte(r: Registers, pages: &[u16], memory: &[u16]) -> Stepped
+#[tactic(auto, unfolding(acts::specs::Acts::exec))]
+pub fn load_byte(r: Registers, pages: &[u16], memory: &[u16]) -> Result<Registers, Stop>
     ensures { Performs pages.now (byte_loaded r) r memory.now result memory.now }
 {
-    match get_element(Element::Byte, r.b, r, pages, memory) {
-        Got::Value(w) => {
-            let byte = byte_of(is_low_byte(r.b), w) as u16;
-            let loaded = set_register(Register::A, r, byte);
-            completed(go_ahead(
-                1,
-                set_register(Register::B, loaded, go_along(Element::Byte, r.b, 1)),
-            ))
-        }
-        Got::Ends(t) => stop_by(t, r),
-    }
+    let w = Element::Byte.load(r.b, r, pages, memory)?;
+    let byte = byte_of(is_low_byte(r.b), w);
+    let next = Element::Byte.along(r.b, 1);
+    Ok(
+        r.with_register(Register::A, u16::from(byte))
+            .with_register(Register::B, next)
+            .ahead(1),
+    )
 }
 
 // SBT: the other half of the word stays.
-pub fn store_byte(r: Registers, pages: &[u16], memory: &mut [u16]) -> Stepped
+#[tactic(auto, using(maps::proofs::Laws::place_below, crate::proofs::Bytes::byte_stored_lem))]
+pub fn store_byte(r: Registers, pages: &[u16], memory: &mut [u16]) -> Result<Registers, Stop>
     ensures { Performs pages.now (byte_stored r) r memory.old result memory.new }
 {
     let holder = byte_word(r.b);
-    match place_of(
+    let place = place_of(
         pages,
         r.wmap,
         Map::Execute,
         Purpose::Both,
         holder,
         memory.len(),
-    ) {
-        Place::A => stop_by(Trouble::InRegisters, r),
-        Place::B => stop_by(Trouble::InRegisters, r),
-        Place::Memory(index) => {
-            memory[index] = with_byte(is_low_byte(r.b), memory[index], (r.a % 256) as u8);
-            completed(go_ahead(
-                1,
-                set_register(Register::B, r, go_along(Element::Byte, r.b, 1)),
-            ))
-        }
-        Place::Ends(t) => stop_by(t, r),
-    }
+    )?;
+    let Place::Memory(index) = place else {
+        return Err(Stop::Refused(Refusal::InRegisters));
+    };
+    memory[index] = with_byte(is_low_byte(r.b), memory[index], (r.a % 256) as u8);
+    let next = Element::Byte.along(r.b, 1);
+    Ok(r.with_register(Register::B, next).ahead(1))
 }
 
-// How one pair compares, or what ends the step.
-#[derive(Clone, Copy)]
-pub enum Pair {
-    Ordered(Ordering),
-    Ends(Trouble),
-}
-
-// Where a comparison ends: no difference, or its place in the first array.
-#[derive(Clone, Copy)]
-pub enum Found {
-    Equal(u16),
-    Smaller(u16),
-    Greater(u16),
-    Ends(Trouble),
-}
-
-// The order of the elements at s and d, whose words are v and w.
-fn order_elements(u: Element, s: u16, v: u16, d: u16, w: u16) -> Ordering
-    ensures { result ≡ order_of u (value_of u s v) (value_of u d w) }
+// What follows a comparison: A stays at the place where it ended, B ends past its range.
+fn conclude(order: Ordering, at: u16, end: u16, r: Registers) -> Registers
+    ensures { result ≡ concluded order at end r }
 {
-    match u {
-        Element::Word => compare_words(v, w),
-        Element::Byte => compare_bytes(byte_of(is_low_byte(s), v), byte_of(is_low_byte(d), w)),
-    }
-}
-
-fn compare_pair(u: Element, s: u16, d: u16, r: Registers, pages: &[u16], memory: &[u16]) -> Pair
-    ensures { Compares pages.now u s d r memory.now result }
-{
-    match get_element(u, s, r, pages, memory) {
-        Got::Value(v) => match get_element(u, d, r, pages, memory) {
-            Got::Value(w) => Pair::Ordered(order_elements(u, s, v, d, w)),
-            Got::Ends(e) => Pair::Ends(e),
-        },
-        Got::Ends(e) => Pair::Ends(e),
-    }
-}
-
-// A stays at the place, B ends past its range.
-fn conclude(found: Found, end: u16, r: Registers) -> Stepped
-    ensures { result ≡ concluded found end r }
-{
-    match found {
-        Found::Equal(at) => completed(end_comparison(3, at, end, r)),
-        Found::Smaller(at) => completed(end_comparison(4, at, end, r)),
-        Found::Greater(at) => completed(end_comparison(5, at, end, r)),
-        Found::Ends(t) => stop_by(t, r),
-    }
-}
-
-fn end_comparison(n: u16, at: u16, end: u16, r: Registers) -> Registers
-    ensures { result ≡ compared n at end r }
-{
-    go_ahead(
-        n,
-        set_register(Register::B, set_register(Register::A, r, at), end),
-    )
+    let n = match order {
+        Ordering::Equal => 3,
+        Ordering::Less => 4,
+        Ordering::Greater => 5,
+    };
+    r.with_register(Register::A, at)
+        .with_register(Register::B, end)
+        .ahead(n)
 }
 
 // One pair after another, to the first difference.
@@ -184,72 +171,55 @@ pub(crate) fn compare_strings(
     r: Registers,
     pages: &[u16],
     memory: &[u16],
-) -> Stepped
+) -> Result<Registers, Stop>
     ensures { Performs pages.now (comparing u (along u r.b count) (along u r.a 0) (along u r.b 0) count) r memory.now result memory.now }
 {
-    let mut first = go_along(u, r.a, 0);
-    let mut second = go_along(u, r.b, 0);
+    let mut first = u.along(r.a, 0);
+    let mut second = u.along(r.b, 0);
     let mut left = count;
-    let found = loop {
+    let (order, at) = loop {
         if left == 0 {
-            break Found::Equal(first);
+            break (Ordering::Equal, first);
         }
-        match compare_pair(u, first, second, r, pages, memory) {
-            Pair::Ordered(order) => match order {
-                Ordering::Less => break Found::Smaller(first),
-                Ordering::Greater => break Found::Greater(first),
-                Ordering::Equal => {
-                    first = go_along(u, first, 1);
-                    second = go_along(u, second, 1);
-                    left -= 1;
-                }
-            },
-            Pair::Ends(t) => break Found::Ends(t),
+        let order = u.compare(first, second, r, pages, memory)?;
+        if order != Ordering::Equal {
+            break (order, first);
         }
+        first = u.along(first, 1);
+        second = u.along(second, 1);
+        left -= 1;
     };
-    conclude(found, go_along(u, r.b, count), r)
+    Ok(conclude(order, at, u.along(r.b, count), r))
 }
 
 // CMW and CBT
-pub fn compare(u: Element, r: Registers, pages: &[u16], memory: &[u16]) -> Stepped
+pub fn compare(u: Element, r: Registers, pages: &[u16], memory: &[u16]) -> Result<Registers, Stop>
     ensures { Performs pages.now (compare_act u r) r memory.now result memory.now }
 {
-    match count_at(r, pages, memory) {
-        Got::Value(n) => {
-            if is_none(n) {
-                return completed(go_ahead(3, r));
-            }
-            compare_strings(u, n, r, pages, memory)
-        }
-        Got::Ends(t) => stop_by(t, r),
+    let count = count_at(r, pages, memory)?;
+    if is_none(count) {
+        return Ok(r.ahead(3));
     }
+    compare_strings(u, count, r, pages, memory)
 }
 
 // SBS, CBS and TBS: the address of the mask, that of the target, the mask, the target.
-pub fn mask_bits(x: Bits, r: Registers, pages: &[u16], memory: &mut [u16]) -> Stepped
+pub fn mask_bits(
+    x: Bits,
+    r: Registers,
+    pages: &[u16],
+    memory: &mut [u16],
+) -> Result<Registers, Stop>
     ensures { Performs pages.now (mask_act x r) r memory.old result memory.new }
 {
-    match get_address(1, r, pages, memory) {
-        Got::Value(m) => match get_address(2, r, pages, memory) {
-            Got::Value(at) => mask_word(x, m, at, r, pages, memory),
-            Got::Ends(t) => stop_by(t, r),
-        },
-        Got::Ends(t) => stop_by(t, r),
-    }
+    let m = get_address(1, r, pages, memory)?;
+    let at = get_address(2, r, pages, memory)?;
+    let mask = load_word(m, r, pages, memory)?;
+    let w = load_word(at, r, pages, memory)?;
+    put_masked(x, mask, w, at, r, pages, memory)
 }
 
-fn mask_word(x: Bits, m: u16, at: u16, r: Registers, pages: &[u16], memory: &mut [u16]) -> Stepped
-    ensures { Performs pages.now (load Map.Execute m (λ mask. load Map.Execute at (λ w. masked x r mask w at))) r memory.old result memory.new }
-{
-    match read_word(pages, memory, r.wmap, Map::Execute, m, r.a, r.b) {
-        Got::Value(mask) => match read_word(pages, memory, r.wmap, Map::Execute, at, r.a, r.b) {
-            Got::Value(w) => put_masked(x, mask, w, at, r, pages, memory),
-            Got::Ends(t) => stop_by(t, r),
-        },
-        Got::Ends(t) => stop_by(t, r),
-    }
-}
-
+#[tactic(auto, unfolding(acts::specs::Acts::exec))]
 fn put_masked(
     x: Bits,
     mask: u16,
@@ -258,16 +228,13 @@ fn put_masked(
     r: Registers,
     pages: &[u16],
     memory: &mut [u16],
-) -> Stepped
+) -> Result<Registers, Stop>
     ensures { Performs pages.now (masked x r mask w at) r memory.old result memory.new }
 {
     let to = past(r.p, 3);
     match x {
         Bits::Sbs => put(w | mask, Map::Execute, at, to, r, pages, memory),
         Bits::Cbs => put(clear_bits(mask, w), Map::Execute, at, to, r, pages, memory),
-        Bits::Tbs => {
-            let missing = !every_bit_set(mask, w);
-            completed(go_to(skipping(r.p, 3, missing), r))
-        }
+        Bits::Tbs => Ok(r.skipping(3, !every_bit_set(mask, w))),
     }
 }

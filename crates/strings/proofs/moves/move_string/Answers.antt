@@ -1,17 +1,9 @@
--- `moves::move_string` meets its contract: by what its calls ensure. Assumes nothing.
-use Rattle.std.proofs.Common.{sym, refl}
+-- `moves::move_string` meets its contract: a count of none moves P alone. Assumes nothing.
+use Rattle.std.proofs.Common.{refl}
 use Rattle.acts.specs.Acts.{exec}
-use Rattle.acts.proofs.Operands.{had_value, had_stop}
+use Rattle.acts.proofs.Operands.{had_value}
 use Rattle.strings.proofs.moves.move_string.Goals as goal
 
 pub returns-then-is_none : goal.returns-then-is_none
 unfolding exec
-returns-then-is_none c = rw (had_value c.count_at.ensures c.in-Value.is _, ← c.is_none.ensures, c.if-is_none.true, c.completed.ensures, c.go_ahead.ensures) (record { outcome = refl; memory = refl })
-
-pub returns-else-is_none : goal.returns-else-is_none
-returns-else-is_none c =
-    rw (had_value c.count_at.ensures c.in-Value.is _, ← c.is_none.ensures, c.if-is_none.false)
-    (c.move_then.ensures _ (sym c.past_ranges.ensures))
-
-pub returns-in-Ends : goal.returns-in-Ends
-returns-in-Ends c = had_stop c.count_at.ensures c.in-Ends.is c.stop_by.ensures _
+returns-then-is_none c = rw (had_value c.count_at.ensures c.in_ok-count.was _, ← c.is_none.ensures, c.if-is_none.true, c.ahead.ensures) (record { outcome = refl; memory = refl })

@@ -1,40 +1,39 @@
--- `strings::compare_strings` meets its contract. The loop's invariant: what is left of the comparison ends as the whole does.
--- The measure is how many pairs are left. Assumes nothing.
-use Rattle.std.proofs.Common.{sym, refl, ◌∙◌, arith}
+-- `strings::compare_strings` meets its contract: by the way out of the loop. Assumes nothing.
+use Rattle.std.proofs.Common.{◌-◌, sym, refl, ap, ◌∙◌, arith}
+use Rattle.std.specs.Prelude.{Err}
+use Rattle.std.proofs.lemmas.Result.{err_from_is_err_and}
 use Rattle.acts.specs.Acts.{exec}
-use Rattle.strings.specs.Strings.{along, comparing}
-use Rattle.strings.proofs.Comparisons.{ordered, stopped}
 use Rattle.acts.proofs.Operands.{stopping}
+use Rattle.strings.specs.Strings.{along, comparing}
+use Rattle.strings.proofs.Comparisons.{same, differs, ordered, stopped}
 use Rattle.strings.proofs.strings.compare_strings.Goals as goal
-use Rattle.strings.proofs.strings.compare_strings.Goals.{then-left-eq0, else-left-eq0+in-Ordered+in-Smaller, else-left-eq0+in-Ordered+in-Greater, else-left-eq0+in-Ends}
-
-pub loop-left-init : goal.loop-left-init
-loop-left-init c = rw (c.go_along-first.ensures, c.go_along-second.ensures)
-
-pub overflow_sub-left : goal.overflow_sub-left
-overflow_sub-left c = omega arith
-
-pub loop-left-smaller : goal.loop-left-smaller
-loop-left-smaller c = omega arith
+use Rattle.strings.proofs.strings.compare_strings.Goals.{then-left-eq0, else-left-eq0+in_ok-order+then-ne}
 
 pub loop-left-preserved : goal.loop-left-preserved
 loop-left-preserved c =
-    let args = c.args in
-    let at = c.loop-left in
-    rw (c.go_along-first-in-Equal.ensures, c.go_along-second-in-Equal.ensures)
-    (sym (rw c.in-Equal.is at (ordered _ args.u (along args.u args.r.b args.count) _ _ at.left _ _ (omega arith) c.compare_pair.ensures c.in-Ordered.is)) ∙ at.invariant)
+    let u = c.args.u in
+    let x = ordered c.args.pages.now u (along u c.args.r.b c.args.count) c.loop-left.first c.loop-left.second c.loop-left.left c.args.r c.args.memory.now (omega arith) c.compare.ensures c.in_ok-order.was in
+    rw (c.along-first-in-loop-left.ensures, c.along-second-in-loop-left.ensures)
+    (sym (rw (same c.in_ok-order.order (c.if-ne.ensures)) at x) ∙ c.loop-left.invariant)
 
--- by the way out of the loop
+pub returns-in_err-order : goal.returns-in_err-order
+returns-in_err-order c =
+    let p = err_from_is_err_and c.from_residual.result c.from_residual.ensures.1 in
+    let u = c.args.u in
+    rw (← c.loop-left.invariant, stopped c.args.pages.now u (along u c.args.r.b c.args.count) c.loop-left.first c.loop-left.second c.loop-left.left c.args.r c.args.memory.now (omega arith) c.compare.ensures c.in_err-order.was)
+    (stopping c.in_err-order.field-0.0 (p.1 ∙ ap Err p.2))
+
 pub returns : goal.returns
 unfolding exec comparing
 returns c =
-    let args = c.args in
-    let end = along args.u args.r.b args.count in
-    let left = c.loop-left.left in
-    rw (← c.loop-left.invariant, c.conclude.ensures, c.go_along.ensures)
+    rw (← c.loop-left.invariant, c.conclude.ensures, c.along.ensures)
     (elim c.if-left-eq0.branch [
-      | then-left-eq0 w ↦ rw (w.found-is, w.if-left-eq0.true) (record { outcome = refl; memory = refl })
-      | else-left-eq0+in-Ordered+in-Smaller w ↦ rw (w.found-is, ordered _ args.u end _ _ left _ _ (omega (arith, w.if-left-eq0.false)) w.compare_pair.ensures w.in-Ordered.is, w.in-Smaller.is) (record { outcome = refl; memory = refl })
-      | else-left-eq0+in-Ordered+in-Greater w ↦ rw (w.found-is, ordered _ args.u end _ _ left _ _ (omega (arith, w.if-left-eq0.false)) w.compare_pair.ensures w.in-Ordered.is, w.in-Greater.is) (record { outcome = refl; memory = refl })
-      | else-left-eq0+in-Ends w ↦ rw (w.found-is, stopped _ args.u end _ _ left _ _ (omega (arith, w.if-left-eq0.false)) w.compare_pair.ensures w.in-Ends.is) (stopping w.in-Ends.t refl)
+      | then-left-eq0 w ↦ rw (w.order-is, w.if-left-eq0.true) (record { outcome = refl; memory = refl })
+      | else-left-eq0+in_ok-order+then-ne w ↦
+          rw (
+            w.order-is,
+            ordered c.args.pages.now c.args.u (along c.args.u c.args.r.b c.args.count) c.loop-left.first c.loop-left.second c.loop-left.left c.args.r c.args.memory.now (omega (arith, w.if-left-eq0.false)) w.compare.ensures w.in_ok-order.was,
+            differs c.args.pages.now c.args.u (along c.args.u c.args.r.b c.args.count) c.loop-left.first c.loop-left.second (c.loop-left.left - 1) c.args.r c.args.memory.now w.in_ok-order.order (w.if-ne.ensures),
+          )
+          (record { outcome = refl; memory = refl })
     ])
