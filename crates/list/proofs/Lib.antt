@@ -1,7 +1,7 @@
 -- Laws of a listing that belong to no one function. Assumes nothing.
---     Tables    a loop that fills an array from a function
---     Texts     bytes put into a text, and a number in decimal
---     Lines     a text has room for a listing
+--     Tables    a table's first words; which lengths are run
+--     Texts     a number in decimal
+--     Lines     a run's line, as it is written
 --     Cases     lines worked out by hand
 --     Tight     each promise fixes its result
 pub mod Tables

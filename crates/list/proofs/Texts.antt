@@ -1,62 +1,24 @@
--- Bytes put into a text, and a number in decimal.
---     puts_more       bytes put after bytes
---     puts_holding    bytes put at the end of a text that has room for them
---     one_digit       a number below 10 is put as its digit
---     more_digits     another number is its digits but the last, and that digit behind them
+-- A number in decimal.
+--     decimal_text    what `{}` writes of a number
 --     fewest          the digits of specs/Text are the last digits of the number, as many as it has
---     most_digits     a number below 10 ^ k has up to k digits, k not 0
 -- Assumes nothing.
-use Rattle.std.proofs.Common.{◌≡◌, refl, ℕ, zero, suc, ◌+◌, ◌-◌, ◌/◌, ◌%◌, ◌^◌, ◌<◌, ◌≤◌, Bool, true, false, cond, List, [], ◌∷◌, ◌++◌, length, drop, replicate, arith, add-one}
+use Rattle.std.proofs.Common.{◌≡◌, refl, sym, ℕ, zero, suc, ◌+◌, ◌-◌, ◌/◌, ◌%◌, ◌^◌, ◌<◌, ◌≤◌, cond, List, [], ◌∷◌, ◌++◌, arith}
+use Rattle.std.specs.Fmt.{decimal}
 use Rattle.std.proofs.Math.Nat.{pow-suc, one-le-pow, mod-eq_of_lt}
 use Rattle.std.proofs.Math.Dec.{ltb}
-use Rattle.std.proofs.Math.ListN.{set}
-use Rattle.std.proofs.Math.Seq.{drop-cons, set-append_seam}
-use Rattle.std.proofs.lemmas.Bool.{ltb-false, lt-ltb, le-ltb}
-use Rattle.std.proofs.lemmas.List.{length-append, append-nil, append_assoc}
-use Rattle.list.specs.declared.text.Text.{Text}
-use Rattle.list.specs.Text.{put, puts, holding, digits_within, decimal_digits}
+use Rattle.std.proofs.lemmas.Bool.{lt-ltb, le-ltb}
+use Rattle.std.proofs.lemmas.Fmt.{AppendsLastDigit, decimal_from_appends, length-decimal-le_succ}
+use Rattle.list.specs.Text.{digits_within, decimal_digits}
 
-pub puts_more : (t : Text) (l m : List ℕ) → puts t (l ++ m) ≡ puts (puts t l) m
-unfolding puts
-puts_more t [] m = refl
-puts_more t (b ∷ l) m = puts_more (put t b) l m
-
--- z: the zeros
-seam : (z d : List ℕ) (b : ℕ) → length d < length z
-    → set (d ++ drop (length d) z) (length d) b ≡ d ++ (b ∷ []) ++ drop (length (d ++ (b ∷ []))) z
-seam z d b h = rw (drop-cons z (length d) 0, set-append_seam, append_assoc, length-append, add-one) refl
-
-put_holding : (d : List ℕ) (b : ℕ) → length d < 80 → put (holding d) b ≡ holding (d ++ (b ∷ []))
-unfolding put
-put_holding d b h = rw (lt-ltb (length d) 80 h, seam (replicate 80 0) d b h, length-append) refl
-
-pub puts_holding : (d l : List ℕ) → length d + length l ≤ 80 → puts (holding d) l ≡ holding (d ++ l)
-unfolding puts
-puts_holding d [] h = rw append-nil refl
-puts_holding d (b ∷ l) h =
-    rw (put_holding d b (omega arith), puts_holding (d ++ (b ∷ [])) l (rw length-append (omega arith)), append_assoc d (b ∷ []) l) refl
-
-one_branch : (b : Bool) (x y z : List ℕ) → (b ≡ false → y ≡ z) → cond b x y ≡ cond b x z
-one_branch true x y z h = refl
-one_branch false x y z h = h refl
-
--- digits_within gives the same with any two numbers that are enough
-enough : (k f n : ℕ) → n < k → n < f → digits_within k n ≡ digits_within f n
+appends : AppendsLastDigit digits_within
 unfolding digits_within
-enough zero f n h u = absurd (omega arith)
-enough (suc k) zero n h u = absurd (omega arith)
-enough (suc k) (suc f) n h u =
-    one_branch (ltb n 10) _ _ _
-    (λ e. let ten : 10 ≤ n = ltb-false n 10 e in rw (enough k f (n / 10) (omega arith) (omega arith)) refl)
+appends = record {
+  one = λ k n h. rw (lt-ltb n 10 h) refl;
+  more = λ k n h. rw (le-ltb n 10 h) refl;
+}
 
-pub one_digit : (t : Text) (n : ℕ) → n < 10 → put t (48 + n) ≡ puts t (decimal_digits n)
-unfolding digits_within puts
-one_digit t n h = rw (lt-ltb n 10 h) refl
-
-pub more_digits : (t : Text) (n : ℕ) → 10 ≤ n → put (puts t (decimal_digits (n / 10))) (48 + n % 10) ≡ puts t (decimal_digits n)
-unfolding digits_within puts
-more_digits t n h =
-    rw (le-ltb n 10 h, enough n (suc (n / 10)) (n / 10) (omega arith) (omega arith), puts_more t) refl
+pub decimal_text : (n : ℕ) → n < 2 ^ 64 → decimal n ≡ decimal_digits n
+decimal_text n h = sym (decimal_from_appends digits_within appends (suc n) n h (omega (arith, length-decimal-le_succ n h)))
 
 -- the last k digits of n in base b, as their bytes, the most significant first
 abbrev last_digits : ℕ → ℕ → ℕ → List ℕ
@@ -86,15 +48,3 @@ fewest zero n e = absurd (omega arith)
 fewest (suc k) n e =
     let last : suc k - 1 ≡ k = omega arith in
     spelled k (suc n) n (omega arith) e.1 (λ z. rw last at (e.2 (omega arith)))
-
-either : (b : Bool) (x y : List ℕ) (k : ℕ) → length x ≤ k → length y ≤ k → length (cond b x y) ≤ k
-either true x y k p q = p
-either false x y k p q = q
-
-pub most_digits : (k f n : ℕ) → n < 10 ^ suc k → length (digits_within f n) ≤ suc k
-unfolding digits_within
-most_digits k zero n h = omega arith
-most_digits zero (suc f) n h = rw (lt-ltb n 10 h) (omega arith)
-most_digits (suc k) (suc f) n h =
-    either (ltb n 10) _ _ _ (omega arith)
-    (rw length-append (omega (arith, most_digits k f (n / 10) (omega (arith, pow-suc 10 (suc k))))))

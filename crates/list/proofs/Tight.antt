@@ -1,10 +1,11 @@
 -- Each promise fixes its result: two results that satisfy a function's own contract, as its `Reads` has it, are equal.
 -- No function is lent anything to be written, so each has `OneResult` of the word layer. In the order of src/: image, line.
--- That show writes out the bytes that list_image gives no contract says; the programs `listing`, `listing_short` and
+-- That show writes out the text of what list_image gives no contract says; the programs `listing`, `listing_short` and
 -- `listing_flags` compare it.
 -- Assumes nothing.
-use mathlib.Core.Path.{sym, ◌∙◌}
+use mathlib.Core.Path.{sym, ◌∙◌, ap}
 use Rattle.word.proofs.Tight.{OneResult}
+use Rattle.acts.specs.declared.replies.Ran.{Ran}
 use Rattle.list.proofs.image.page_registers.Kinds as page_registers
 use Rattle.list.proofs.image.page_registers.Reads as page_registers_reads
 use Rattle.list.proofs.image.image_words.Kinds as image_words
@@ -24,4 +25,4 @@ pub run_image_tight : OneResult 1 run_image.ps run_image.r run_image_reads.Post
 run_image_tight κs a x y s t p q = p ∙ sym q
 
 pub list_image_tight : OneResult 1 list_image.ps list_image.r list_image_reads.Post
-list_image_tight κs a x y s t p q = p ∙ sym q
+list_image_tight κs a x y s t p q = ap (λ (r : Ran). record { 0 = r }) (p.0 ∙ sym q.0)

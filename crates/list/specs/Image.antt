@@ -4,15 +4,15 @@
 --     page_names           the page registers
 --     is_whole, listed     which lengths are run, and what is printed
 -- Assumes nothing.
-use Rattle.std.specs.Prelude.{ℕ, zero, suc, ◌+◌, ◌*◌, ◌/◌, ◌%◌, Bool, cond, ◌&&◌, List, [], ◌∷◌, ◌++◌, eqb, leb, length, get_or}
+use Rattle.std.specs.Prelude.{ℕ, ◌+◌, ◌*◌, ◌/◌, ◌%◌, Bool, cond, ◌&&◌, List, eqb, leb, length, get_or, map}
+use Rattle.std.specs.List.{range_with_len}
 use Rattle.acts.specs.Record.{fresh}
 use Rattle.machine.specs.Step.{ran}
 use Rattle.acts.specs.declared.replies.Reply.{Reply}
 use Rattle.acts.specs.declared.replies.Ran.{Ran}
 
 unfoldable pub tabulated : (ℕ → ℕ) → ℕ → List ℕ
-tabulated f zero = []
-tabulated f (suc n) = tabulated f n ++ (f n ∷ [])
+tabulated f n = map f (range_with_len 0 n)
 
 -- "high byte first"
 abbrev pub image_word : List ℕ → ℕ → ℕ

@@ -1,44 +1,40 @@
 // The words of an image, the page registers of a listing, and its run.
-ghost use Rattle.std.specs.Prelude.{◌≡◌, ◌+◌, ◌*◌, get_or};
+ghost use Rattle.std.specs.Prelude.{◌≡◌, ◌+◌, ◌*◌, ◌<◌, get_or};
 ghost use Rattle.list.specs.Image.{tabulated, image_word, page_names, is_whole, listed};
 
 use acts::record::fresh_record;
 use acts::replies::{Ran, Reply};
+use std::array;
 
 // Every map names page n for page n.
 pub fn page_registers() -> [u16; 1024]
     ensures { result ≡ page_names }
 {
-    let mut pages = [0u16; 1024];
-    for i in 0..1024 {
-        pages[i] = (i % 32) as u16;
-    }
-    pages
+    array::from_fn(|i| (i % 32) as u16)
 }
 
 // A byte past the end is 0.
 fn byte_at(bytes: &[u8], i: usize) -> u8
     ensures { result ≡ get_or bytes.now i 0 }
 {
-    if i < bytes.len() {
-        return bytes[i];
-    }
-    0
+    bytes.get(i).copied().unwrap_or(0)
 }
 
-fn word_of(high: u8, low: u8) -> u16
-    ensures { result ≡ high * 256 + low }
+// The word at a place, high byte first.
+fn word_at(bytes: &[u8], i: usize) -> u16
+    requires { i < 8192 }
+    ensures { result ≡ image_word bytes.now i }
 {
-    high as u16 * 256 + low as u16
+    u16::from_be_bytes([byte_at(bytes, 2 * i), byte_at(bytes, 2 * i + 1)])
 }
 
-// The first 8 pages of the words of bytes, high byte first.
+// The first 8 pages of the words of bytes.
 pub fn image_words(bytes: &[u8]) -> [u16; 8192]
     ensures { result ≡ tabulated (image_word bytes.now) 8192 }
 {
-    let mut memory = [0u16; 8192];
-    for i in 0..8192 {
-        memory[i] = word_of(byte_at(bytes, 2 * i), byte_at(bytes, 2 * i + 1));
+    let mut memory = [0; 8192];
+    for (i, word) in memory.iter_mut().enumerate() {
+        *word = word_at(bytes, i);
     }
     memory
 }
@@ -47,7 +43,7 @@ pub fn image_words(bytes: &[u8]) -> [u16; 8192]
 fn is_whole(length: usize) -> bool
     ensures { result ≡ is_whole length }
 {
-    (length % 2048 == 0) & (2048 <= length) & (length <= 16384)
+    length % 2048 == 0 && (2048..=16384).contains(&length)
 }
 
 // A run of up to 1,000 steps from the fresh record.

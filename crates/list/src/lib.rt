@@ -4,4 +4,3 @@
 pub mod image;
 pub mod line;
 pub mod show;
-pub mod text;

@@ -1,43 +1,38 @@
-// The listing of an image, as bytes.
-ghost use Rattle.std.specs.Prelude.{◌≡◌, [], ◌∷◌};
-ghost use Rattle.octal.specs.Digits.{octal_digits, bit_digit};
-ghost use Rattle.list.specs.Text.{puts, holding};
-ghost use Rattle.list.specs.Line.{spaced, line_of, listing};
+// The listing of an image: two lines of text.
+ghost use Rattle.std.specs.Prelude.{◌≡◌, ◌++◌, Some};
+ghost use Rattle.list.specs.Image.{listed};
+ghost use Rattle.list.specs.Line.{header, line_of, listing};
 
 use crate::image::run_image;
-use crate::text::{Text, blank, with_byte, with_bytes, with_decimal};
 use acts::replies::{Ran, number_of};
-use octal::{bit_digit, word_digits};
+use octal::{Bit, Octal};
+use std::fmt;
 
-fn with_word(t: Text, w: u16) -> Text
-    ensures { result ≡ puts t (spaced (octal_digits w)) }
-{
-    let digits = word_digits(w);
-    with_bytes(with_byte(t, b' '), &digits)
+// A run, which prints as its listing.
+#[derive(Clone, Copy)]
+pub struct Listing(pub Ran);
+
+impl fmt::Display for Listing {
+    ghost output = { λ l. Some (header ++ line_of l.0) };
+
+    fn fmt<W: fmt::Write>(&self, f: &mut fmt::Formatter<W>) -> fmt::Result {
+        let Ran {
+            reply,
+            count,
+            registers: r,
+        } = self.0;
+        let answer = number_of(reply);
+        let (p, a, b) = (Octal(r.p), Octal(r.a), Octal(r.b));
+        let (e, o) = (Bit(r.e), Bit(r.o));
+        writeln!(f, "answer steps P A B E O")?;
+        write!(f, "{answer} {count} {p} {a} {b}")?;
+        writeln!(f, " {e} {o}")
+    }
 }
 
-fn with_bit(t: Text, b: bool) -> Text
-    ensures { result ≡ puts t (spaced (bit_digit b ∷ [])) }
+pub fn list_image(bytes: &[u8]) -> Listing
+    ensures run { result.0 ≡ listed bytes.now }
+    ensures text { ⟦<Listing as fmt::Display>⟧.output result ≡ Some (listing bytes.now) }
 {
-    with_byte(with_byte(t, b' '), bit_digit(b))
-}
-
-fn with_line(t: Text, s: Ran) -> Text
-    ensures { result ≡ puts t (line_of s) }
-{
-    let reply = s.reply;
-    let r = s.registers;
-    let answered = with_decimal(t, number_of(reply));
-    let counted = with_decimal(with_byte(answered, b' '), s.count);
-    let words = with_word(with_word(with_word(counted, r.p), r.a), r.b);
-    let bits = with_bit(with_bit(words, r.e), r.o);
-    with_byte(bits, b'\n')
-}
-
-// The whole text: its 80 bytes are enough for every listing.
-pub fn list_image(bytes: &[u8]) -> Text
-    ensures { result ≡ holding (listing bytes.now) }
-{
-    let headed = with_bytes(blank(), b"answer steps P A B E O\n");
-    with_line(headed, run_image(bytes))
+    Listing(run_image(bytes))
 }

@@ -8,8 +8,5 @@ use std::io::Input;
 pub fn list_input(rt: &(impl Input + Print)) -> io::Result<()> {
     let mut bytes = [0u8; 16385];
     let n = read_full(&mut rt.reader(), &mut bytes)?;
-    let text = list_image(&bytes[..n]);
-    let len = text.len;
-    let out = text.bytes;
-    rt.write_all(&out[..len])
+    rt.print(list_image(&bytes[..n]))
 }

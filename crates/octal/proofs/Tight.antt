@@ -1,6 +1,5 @@
 -- Each promise fixes its result: two results that satisfy a function's own contract, as its `Reads` has it, are equal.
--- In the order of src/. What print_word and print_bit print no contract speaks of, and read_full's bounds what it
--- read.
+-- In the order of src/. What a word and a bit print is the `output` of their types, and read_full's bounds what it read.
 -- Assumes nothing.
 use mathlib.Core.Path.{sym, ◌∙◌}
 use Rattle.word.proofs.Tight.{OneResult}

@@ -1,13 +1,12 @@
-// A word as six octal digits, and a bit as one: their bytes, and the bytes on standard output; and standard input by whole
-// buffers.
+// A word as six octal digits, and a bit as one: their bytes, and how they print; and standard input by whole buffers.
 #![tactic(auto)]
 
 pub mod input;
 
-ghost use Rattle.std.specs.Prelude.{◌≡◌};
+ghost use Rattle.std.specs.Prelude.{◌≡◌, [], ◌∷◌, Some};
 ghost use Rattle.octal.specs.Digits.{octal_digits, bit_digit};
 
-use std::io;
+use std::fmt;
 
 pub fn word_digits(w: u16) -> [u8; 6]
     ensures { result ≡ octal_digits w }
@@ -28,12 +27,27 @@ pub fn bit_digit(b: bool) -> u8
     if b { b'1' } else { b'0' }
 }
 
-pub fn print_word(rt: &impl Print, w: u16) -> io::Result<()> {
-    let digits = word_digits(w);
-    rt.write_all(&digits)
+// A word that prints as its six octal digits.
+#[derive(Clone, Copy, Debug, PartialEq, Eq)]
+pub struct Octal(pub u16);
+
+impl fmt::Display for Octal {
+    ghost output = { λ word. Some (octal_digits word.0) };
+
+    fn fmt<W: fmt::Write>(&self, f: &mut fmt::Formatter<W>) -> fmt::Result {
+        let word = self.0;
+        write!(f, "{word:06o}")
+    }
 }
 
-pub fn print_bit(rt: &impl Print, b: bool) -> io::Result<()> {
-    let digits = [bit_digit(b)];
-    rt.write_all(&digits)
+// A bit that prints as its digit.
+#[derive(Clone, Copy, Debug, PartialEq, Eq)]
+pub struct Bit(pub bool);
+
+impl fmt::Display for Bit {
+    ghost output = { λ bit. Some (bit_digit bit.0 ∷ []) };
+
+    fn fmt<W: fmt::Write>(&self, f: &mut fmt::Formatter<W>) -> fmt::Result {
+        write!(f, "{}", u8::from(self.0))
+    }
 }

@@ -3,18 +3,18 @@
 use crate::state::word;
 use acts::record::Registers;
 use acts::replies::{Ran, Stepped, number_of};
-use octal::{print_bit, print_word};
+use octal::{Bit, Octal};
 use std::io;
 use word::sums::add;
 
 fn space(rt: &impl Print, w: u16) -> io::Result<()> {
     rt.write_all(b" ")?;
-    print_word(rt, w)
+    rt.print(Octal(w))
 }
 
 fn space_bit(rt: &impl Print, b: bool) -> io::Result<()> {
     rt.write_all(b" ")?;
-    print_bit(rt, b)
+    rt.print(Bit(b))
 }
 
 fn print_registers(rt: &impl Print, r: Registers) -> io::Result<()> {
@@ -49,9 +49,9 @@ pub(crate) fn print_ran(rt: &impl Print, s: Ran) -> io::Result<()> {
 fn print_change(rt: &impl Print, label: &[u8], i: u16, is: u16, was: u16) -> io::Result<()> {
     if is != was {
         rt.write_all(label)?;
-        print_word(rt, i)?;
+        rt.print(Octal(i))?;
         rt.write_all(b"=")?;
-        print_word(rt, is)?;
+        rt.print(Octal(is))?;
     }
     Ok(())
 }

@@ -1,17 +1,10 @@
 -- `list::image::image_words` meets its contract. Assumes nothing.
-use Rattle.std.proofs.Common.{refl, arith}
+use Rattle.std.proofs.Common.{arith}
+use Rattle.std.proofs.lemmas.List.FromFn.{fill_by_all}
 use Rattle.list.specs.Image.{tabulated, image_word}
-use Rattle.list.proofs.Tables.{turn, whole}
 use Rattle.list.proofs.image.image_words.Goals as goal
 
-pub loop-i-init : goal.loop-i-init
-unfolding tabulated
-loop-i-init c = record { size_of = refl; within = omega arith; so_far = refl }
-
-pub loop-i-preserved : goal.loop-i-preserved
-loop-i-preserved c =
-    rw (c.word_of.ensures, c.byte_at.ensures, c.byte_at-in-loop-i.ensures)
-    (turn (image_word c.args.bytes.now) 8192 c.loop-i.memory c.loop-i.i _ c.loop-i.invariant (omega arith) refl)
-
 pub returns : goal.returns
-returns c = whole (image_word c.args.bytes.now) 8192 c.loop-i.memory c.loop-i.i c.loop-i.invariant (omega arith)
+unfolding tabulated
+returns c =
+    fill_by_all (image_word c.args.bytes.now) c.loop-i.word-items 8192 0 (omega arith) (λ k h. c.loop-i.invariant k (omega arith))

@@ -1,7 +1,7 @@
--- The words so far are the table.
+-- The words so far are those of the bytes.
+use Rattle.std.proofs.Common.{◌≡◌, ℕ, ◌<◌, get_or}
 use Rattle.list.specs.Image.{image_word}
-use Rattle.list.proofs.Tables.{Filled}
 use Rattle.list.proofs.image.image_words.Given as goal
 
 abbrev pub invariant-loop-i : goal.invariant-loop-i
-invariant-loop-i l = Filled (image_word l.bytes) 8192 l.memory l.i
+invariant-loop-i l = (k : ℕ) → k < l.i → get_or l.word-items k 0 ≡ image_word l.bytes k
