@@ -19,7 +19,7 @@ use Rattle.word.specs.Sums.{incremented, decremented, address}
 use Rattle.maps.specs.Access.{fetched}
 use Rattle.maps.specs.Chains.{chain}
 use Rattle.maps.specs.declared.pages.Map.{Map}
-use Rattle.std.specs.Prelude.{Some, None, find}
+use Rattle.std.specs.List.{find}
 use Rattle.code.specs.Codes.{find_word, rows}
 use Rattle.code.specs.Instructions.{memory_reference, shift_rotate, alter_skip, input_output, places, of_kind, extended, reading}
 use Rattle.code.proofs.Fields.{is_extended}
@@ -36,24 +36,18 @@ use Rattle.code.specs.declared.codes.Arithmetic.TheVariants.{Mpy, Div, Dld, Dst}
 use Rattle.code.specs.declared.codes.Extended.{Extended}
 use Rattle.code.specs.declared.codes.Kind.TheVariants.{Exact, Long}
 use Rattle.code.specs.declared.instructions.Instruction.{Instruction}
-use Rattle.acts.specs.Record.{with_a, with_b, in_index, ahead}
-use Rattle.acts.specs.Acts.{Act, fin, load, follow, done, exec}
+use Rattle.acts.specs.Record.{in_index}
+use Rattle.acts.specs.Acts.{Act, follow, done, exec}
 use Rattle.acts.specs.declared.record.Registers.{Registers}
 use Rattle.effects.specs.Group.{long_rotated, copied_to_index, copied_from_index, exchanged, index_stepped}
-use Rattle.effects.specs.Ways.{taken, way_act}
-use Rattle.effects.specs.declared.ways.Taking.{Taking}
-use Rattle.effects.specs.declared.ways.Source.{Source}
-use Rattle.effects.specs.declared.ways.Addressing.TheVariants.{Plain, Indexed}
+use Rattle.effects.specs.Ways.{way_act}
 use Rattle.effects.specs.declared.ways.Way.{Way}
-use Rattle.effects.specs.declared.ways.Way.TheVariants.{Take, Put, LoadDouble}
-use Rattle.rules.specs.Rules.{arithmetic_way, extended_action, act, rule}
+use Rattle.rules.specs.Rules.{extended_action, act, rule}
 use Rattle.rules.specs.declared.actions.Operand.{Operand}
 use Rattle.rules.specs.declared.actions.Action.{Action}
-use Rattle.lane.specs.Lane.{Tried, Led}
-use Rattle.lane.specs.declared.went.Went.{Went}
-use Rattle.lane.specs.declared.went.Reach.{Reach}
-use Rattle.lane.proofs.Ways.{loaded, finished, tried}
-use Rattle.std.specs.Prelude.{Result, Ok}
+use Rattle.lane.proofs.Ways.{loaded, finished}
+use Rattle.std.specs.Prelude.{Some, None, Result, Ok}
+use Rattle.std.specs.Result.{result_ok}
 use Rattle.maps.specs.declared.troubles.Trouble.{Trouble}
 
 ---- The words
@@ -224,52 +218,8 @@ module _ (pages m : List ℕ) (r : Registers) where
   unfolding exec
   followed from k e = rw e
 
-  led : (from : ℕ) {to : ℕ} (g : Reach) → Led pages from r m g → g ≡ Reach.At to → chain pages m r.wmap from r.a r.b ≡ Ok to
-  led from g h e = rw e at h
-
-  pub arrived : (way : Way) (from : ℕ) {to : ℕ} {f : Result ℕ Trouble} (g : Reach) → f ≡ fetched pages m r.wmap Map.Execute (address r.p 1) r.a r.b
-      → f ≡ Ok from → Led pages from r m g → g ≡ Reach.At to → exec pages (act (Action.At way Operand.Next) r) r m ≡ exec pages (way_act way r to 2) r m
-  arrived way from g e w h k =
-      loaded pages m r (address r.p 1) (λ v. follow v (λ at. way_act way r at 2)) e w ∙ followed from (λ at. way_act way r at 2) (led from g h k)
-
-  pub takes : (t : Taking) (at : ℕ) {v : ℕ} {f : Result ℕ Trouble} {s : Registers} → f ≡ fetched pages m r.wmap Map.Execute at r.a r.b
-      → f ≡ Ok v → s ≡ taken t v 2 r → exec pages (load Map.Execute at (λ w. fin (taken t w 2))) r m ≡ done s m
-  takes t at {v} e g h = loaded pages m r at (λ w. fin (taken t w 2)) e g ∙ finished pages m r (taken t v 2) m h
-
-  pub takes_both : (at : ℕ) {v w : ℕ} {f g : Result ℕ Trouble} {s : Registers} → f ≡ fetched pages m r.wmap Map.Execute at r.a r.b
-      → f ≡ Ok v → g ≡ fetched pages m r.wmap Map.Execute (address at 1) r.a r.b → g ≡ Ok w
-      → s ≡ ahead 2 (with_b (with_a r v) w) → exec pages (way_act LoadDouble r at 2) r m ≡ done s m
-  takes_both at {v} {w} e g a b h =
-      loaded pages m r at (λ v. load Map.Execute (address at 1) (λ w. fin (λ s. ahead 2 (with_b (with_a s v) w)))) e g
-      ∙ loaded pages m r (address at 1) (λ w. fin (λ s. ahead 2 (with_b (with_a s v) w))) a b
-      ∙ finished pages m r (λ s. ahead 2 (with_b (with_a s v) w)) m h
-
-  module _ (to : ℕ) (arrive : (way : Way) → exec pages (act (Action.At way Operand.Next) r) r m ≡ exec pages (way_act way r to 2) r m) (n : List ℕ) (w : Went) where
-    by : (x : Extended) (way : Way) {k word : ℕ} → reading k ≡ Instruction.Extended x → act (extended_action x) r ≡ act (Action.At way Operand.Next) r → word ≡ k
-        → Tried pages (way_act way r to 2) r m w n → Tried pages (rule (reading word) r) r m w n
-    by x way {word = word} g a e h =
-        tried pages m r (rule (reading word) r) (way_act way r to 2) n w (ap (λ (act : Act). exec pages act r m) (told r x e g ∙ a) ∙ arrive way) h
-
-    pub by_arithmetic : (o : Arithmetic) {word : ℕ} → word ≡ arithmetic_word o → Tried pages (way_act (arithmetic_way o) r to 2) r m w n
-        → Tried pages (rule (reading word) r) r m w n
-    by_arithmetic o = by (Extended.Arithmetic o) (arithmetic_way o) (read_arithmetic o) refl
-
-    pub by_sax : (g : Register) (i : Index) {word : ℕ} → word ≡ transfer_word Sax g i
-        → Tried pages (way_act (Put (Source.Register g) Map.Execute (Indexed i)) r to 2) r m w n → Tried pages (rule (reading word) r) r m w n
-    by_sax g i = by (Extended.Transfer Sax g i) (Put (Source.Register g) Map.Execute (Indexed i)) (read_transfer Sax g i) refl
-
-    pub by_lax : (g : Register) (i : Index) {word : ℕ} → word ≡ transfer_word Lax g i
-        → Tried pages (way_act (Take (Taking.Load g) Map.Execute (Indexed i)) r to 2) r m w n → Tried pages (rule (reading word) r) r m w n
-    by_lax g i = by (Extended.Transfer Lax g i) (Take (Taking.Load g) Map.Execute (Indexed i)) (read_transfer Lax g i) refl
-
-    pub by_stx : (i : Index) {word : ℕ} → word ≡ indexing_word Stx i
-        → Tried pages (way_act (Put (Source.Index i) Map.Execute Plain) r to 2) r m w n → Tried pages (rule (reading word) r) r m w n
-    by_stx i = by (Extended.Indexing Stx i) (Put (Source.Index i) Map.Execute Plain) (read_indexing Stx i) refl
-
-    pub by_ldx : (i : Index) {word : ℕ} → word ≡ indexing_word Ldx i
-        → Tried pages (way_act (Take (Taking.LoadIndex i) Map.Execute Plain) r to 2) r m w n → Tried pages (rule (reading word) r) r m w n
-    by_ldx i = by (Extended.Indexing Ldx i) (Take (Taking.LoadIndex i) Map.Execute Plain) (read_indexing Ldx i) refl
-
-    pub by_adx : (i : Index) {word : ℕ} → word ≡ indexing_word Adx i
-        → Tried pages (way_act (Take (Taking.AddIndex i) Map.Execute Plain) r to 2) r m w n → Tried pages (rule (reading word) r) r m w n
-    by_adx i = by (Extended.Indexing Adx i) (Take (Taking.AddIndex i) Map.Execute Plain) (read_indexing Adx i) refl
+  pub arrived : (way : Way) (from : ℕ) {to : ℕ} {f : Result ℕ Trouble} → f ≡ fetched pages m r.wmap Map.Execute (address r.p 1) r.a r.b
+      → Some from ≡ result_ok f → chain pages m r.wmap from r.a r.b ≡ Ok to
+      → exec pages (act (Action.At way Operand.Next) r) r m ≡ exec pages (way_act way r to 2) r m
+  arrived way from e w h =
+      loaded pages m r (address r.p 1) (λ v. follow v (λ at. way_act way r at 2)) e w ∙ followed from (λ at. way_act way r at 2) h

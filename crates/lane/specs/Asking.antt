@@ -2,7 +2,7 @@
 --     Goes        a code with an address word goes this way there
 --     Finishes    the registers after a word was read
 -- Assumes nothing.
-use Rattle.std.specs.Prelude.{ℕ, ◌≡◌}
+use Rattle.std.specs.Prelude.{ℕ, ◌≡◌, Option, Some, None}
 use Rattle.maps.specs.declared.pages.Map.TheVariants.{Execute}
 use Rattle.code.specs.Instructions.{reading}
 use Rattle.acts.specs.declared.record.Registers.{Registers}
@@ -13,13 +13,12 @@ use Rattle.rules.specs.Rules.{act, rule}
 use Rattle.rules.specs.declared.actions.Operand.{Operand}
 use Rattle.rules.specs.declared.actions.Action.{Action}
 use Rattle.lane.specs.declared.codes.Asked.{Asked}
-use Rattle.lane.specs.declared.went.Went.{Went}
 
-abbrev pub Goes : ℕ → Asked → Type 0
-Goes word (Asked.Take taking addressing) = (r : Registers) → rule (reading word) r ≡ act (Action.At (Take taking Execute addressing) Operand.Next) r
-Goes word (Asked.Put source addressing) = (r : Registers) → rule (reading word) r ≡ act (Action.At (Put source Execute addressing) Operand.Next) r
-Goes word Asked.Nothing = Unit
+abbrev pub Goes : ℕ → Option Asked → Type 0
+Goes word (Some (Asked.Take taking addressing)) = (r : Registers) → rule (reading word) r ≡ act (Action.At (Take taking Execute addressing) Operand.Next) r
+Goes word (Some (Asked.Put source addressing)) = (r : Registers) → rule (reading word) r ≡ act (Action.At (Put source Execute addressing) Operand.Next) r
+Goes word None = Unit
 
-abbrev pub Finishes : Taking → ℕ → Registers → Went → Type 0
-Finishes taking v r (Went.Done s) = s ≡ taken taking v 2 r
-Finishes taking v r Went.Not = Unit
+abbrev pub Finishes : Taking → ℕ → Registers → Option Registers → Type 0
+Finishes taking v r (Some s) = s ≡ taken taking v 2 r
+Finishes taking v r None = Unit

@@ -9,16 +9,13 @@ ghost use Rattle.rules.specs.Rules.{rule};
 ghost use Rattle.lane.specs.Lane.{Tried};
 ghost use Rattle.lane.specs.Asking.{Goes, Finishes};
 
-use crate::references::lead;
-use crate::went::{Reach, Went};
-use acts::record::{Registers, go_ahead, index, set_index, set_register};
+use crate::references::{lead, put};
+use acts::record::Registers;
 use code::codes::{Index, Register};
-use effects::group::{copy_from_index, copy_to_index, exchange};
-use effects::ways::{Addressing, Source, Taking, set_flags, take_product, take_quotient, value_of};
-use maps::access::read_word;
-use maps::pages::{Map, Place, Purpose, place_of};
-use maps::troubles::Got;
-use word::long::{LongShift, long_shift};
+use effects::group::{copy_from_index, copy_to_index, exchange, long_rotate};
+use effects::ways::{Addressing, Source, Taking, set_flags, take_product, take_quotient};
+use maps::pages::Map;
+use word::long::LongShift;
 use word::products::{divide, multiply};
 use word::sums::{add, decrement, increment, past};
 
@@ -26,122 +23,88 @@ use word::sums::{add, decrement, increment, past};
 fn step(i: Index, w: u16, r: Registers) -> Registers
     ensures { result ≡ index_stepped i w r }
 {
-    let s = set_index(i, r, w);
-    if w == 0 {
-        go_ahead(2, s)
-    } else {
-        go_ahead(1, s)
-    }
-}
-
-// The record after a long shift.
-fn rotate_long(kind: LongShift, n: u16, r: Registers) -> Registers
-    ensures { result ≡ long_rotated kind n r }
-{
-    let t = long_shift(kind, n, r.b, r.a, r.o);
-    let mut s = r;
-    s.a = t.a;
-    s.b = t.b;
-    s.o = t.o;
-    go_ahead(1, s)
+    let s = r.with_index(i, w);
+    if w == 0 { s.ahead(2) } else { s.ahead(1) }
 }
 
 // The long shifts. The places are in their low four bits.
-fn shift_long(word: u16, r: Registers) -> Went
+fn shift_long(word: u16, r: Registers) -> Option<Registers>
     ensures { (pages m : List ℕ) → Tried pages (rule (reading word) r) r m result m }
 {
-    let mut s = r;
-    match word / 16 {
-        0o4001 => s = rotate_long(LongShift::Asl, word, r),
-        0o4002 => s = rotate_long(LongShift::Lsl, word, r),
-        0o4004 => s = rotate_long(LongShift::Rrl, word, r),
-        0o4041 => s = rotate_long(LongShift::Asr, word, r),
-        0o4042 => s = rotate_long(LongShift::Lsr, word, r),
-        0o4044 => s = rotate_long(LongShift::Rrr, word, r),
-        _ => return Went::Not,
-    }
-    Went::Done(s)
+    Some(match word / 16 {
+        0o4001 => long_rotate(LongShift::Asl, word, r),
+        0o4002 => long_rotate(LongShift::Lsl, word, r),
+        0o4004 => long_rotate(LongShift::Rrl, word, r),
+        0o4041 => long_rotate(LongShift::Asr, word, r),
+        0o4042 => long_rotate(LongShift::Lsr, word, r),
+        0o4044 => long_rotate(LongShift::Rrr, word, r),
+        _ => return None,
+    })
 }
 
 // The codes that have no address word.
-fn alone(word: u16, r: Registers) -> Went
+fn alone(word: u16, r: Registers) -> Option<Registers>
     ensures { (pages m : List ℕ) → Tried pages (rule (reading word) r) r m result m }
 {
-    match word {
-        0o101741 => Went::Done(copy_to_index(Register::A, Index::X, r)),
-        0o101751 => Went::Done(copy_to_index(Register::A, Index::Y, r)),
-        0o105741 => Went::Done(copy_to_index(Register::B, Index::X, r)),
-        0o105751 => Went::Done(copy_to_index(Register::B, Index::Y, r)),
-        0o101744 => Went::Done(copy_from_index(Register::A, Index::X, r)),
-        0o101754 => Went::Done(copy_from_index(Register::A, Index::Y, r)),
-        0o105744 => Went::Done(copy_from_index(Register::B, Index::X, r)),
-        0o105754 => Went::Done(copy_from_index(Register::B, Index::Y, r)),
-        0o101747 => Went::Done(exchange(Register::A, Index::X, r)),
-        0o101757 => Went::Done(exchange(Register::A, Index::Y, r)),
-        0o105747 => Went::Done(exchange(Register::B, Index::X, r)),
-        0o105757 => Went::Done(exchange(Register::B, Index::Y, r)),
-        0o105760 => Went::Done(step(Index::X, increment(r.x).word, r)),
-        0o105761 => Went::Done(step(Index::X, decrement(r.x).word, r)),
-        0o105770 => Went::Done(step(Index::Y, increment(r.y).word, r)),
-        0o105771 => Went::Done(step(Index::Y, decrement(r.y).word, r)),
-        _ => shift_long(word, r),
-    }
+    Some(match word {
+        0o101741 => copy_to_index(Register::A, Index::X, r),
+        0o101751 => copy_to_index(Register::A, Index::Y, r),
+        0o105741 => copy_to_index(Register::B, Index::X, r),
+        0o105751 => copy_to_index(Register::B, Index::Y, r),
+        0o101744 => copy_from_index(Register::A, Index::X, r),
+        0o101754 => copy_from_index(Register::A, Index::Y, r),
+        0o105744 => copy_from_index(Register::B, Index::X, r),
+        0o105754 => copy_from_index(Register::B, Index::Y, r),
+        0o101747 => exchange(Register::A, Index::X, r),
+        0o101757 => exchange(Register::A, Index::Y, r),
+        0o105747 => exchange(Register::B, Index::X, r),
+        0o105757 => exchange(Register::B, Index::Y, r),
+        0o105760 => step(Index::X, increment(r.x).word, r),
+        0o105761 => step(Index::X, decrement(r.x).word, r),
+        0o105770 => step(Index::Y, increment(r.y).word, r),
+        0o105771 => step(Index::Y, decrement(r.y).word, r),
+        _ => return shift_long(word, r),
+    })
 }
 
-// The registers after a word was read, by the codes below. The arms have one end.
-fn finish(taking: Taking, v: u16, r: Registers) -> Went
+// The registers after a word was read, by the codes below.
+fn finish(taking: Taking, v: u16, r: Registers) -> Option<Registers>
     ensures { Finishes taking v r result }
 {
-    let mut s = r;
-    match taking {
-        Taking::Multiply => s = go_ahead(2, take_product(multiply(r.a, v), r)),
-        Taking::Divide => s = go_ahead(2, take_quotient(divide(r.b, r.a, v), r)),
-        Taking::Load(g) => s = go_ahead(2, set_register(g, r, v)),
-        Taking::LoadIndex(i) => s = go_ahead(2, set_index(i, r, v)),
+    Some(match taking {
+        Taking::Multiply => take_product(multiply(r.a, v), r),
+        Taking::Divide => take_quotient(divide(r.b, r.a, v), r),
+        Taking::Load(g) => r.with_register(g, v),
+        Taking::LoadIndex(i) => r.with_index(i, v),
         Taking::AddIndex(i) => {
-            let t = add(index(i, r), v);
-            s = go_ahead(2, set_index(i, set_flags(t, r), t.word));
+            let t = add(r.index(i), v);
+            set_flags(t, r).with_index(i, t.word)
         }
-        _ => return Went::Not,
+        _ => return None,
     }
-    Went::Done(s)
+    .ahead(2))
 }
 
 // The word at an address is read, and the registers follow.
-fn take(taking: Taking, at: u16, r: Registers, pages: &[u16], memory: &[u16]) -> Went
+fn take(taking: Taking, at: u16, r: Registers, pages: &[u16], memory: &[u16]) -> Option<Registers>
     ensures { Tried pages.now (load Map.Execute at (λ v. fin (taken taking v 2))) r memory.now result memory.now }
 {
-    let Got::Value(v) = read_word(pages, memory, r.wmap, Map::Execute, at, r.a, r.b) else {
-        return Went::Not;
-    };
+    let v = r.read(Map::Execute, at, pages, memory).ok()?;
     finish(taking, v, r)
 }
 
-// A word is stored at an address.
-fn put(value: u16, at: u16, r: Registers, pages: &[u16], memory: &mut [u16]) -> Went
-    ensures { Tried pages.now (save Map.Execute at value (go_on (address r.p 2))) r memory.old result memory.new }
-{
-    let n = memory.len();
-    let Place::Memory(i) = place_of(pages, r.wmap, Map::Execute, Purpose::Store, at, n) else {
-        return Went::Not;
-    };
-    memory[i] = value;
-    Went::Done(go_ahead(2, r))
-}
-
 // What a code with an address word does there. The map is Execute.
-#[derive(Clone, Copy)]
+#[derive(Clone, Copy, Debug, PartialEq, Eq)]
 pub enum Asked {
     Take(Taking, Addressing),
     Put(Source, Addressing),
-    Nothing,
 }
 
 // Told by the word, with no search.
-fn asks(word: u16) -> Asked
+fn asks(word: u16) -> Option<Asked>
     ensures { Goes word result }
 {
-    match word {
+    Some(match word {
         0o100200 => Asked::Take(Taking::Multiply, Addressing::Plain),
         0o100400 => Asked::Take(Taking::Divide, Addressing::Plain),
         0o101740 => Asked::Put(Source::Register(Register::A), Addressing::Indexed(Index::X)),
@@ -158,51 +121,41 @@ fn asks(word: u16) -> Asked
         0o105755 => Asked::Take(Taking::LoadIndex(Index::Y), Addressing::Plain),
         0o105746 => Asked::Take(Taking::AddIndex(Index::X), Addressing::Plain),
         0o105756 => Asked::Take(Taking::AddIndex(Index::Y), Addressing::Plain),
-        _ => Asked::Nothing,
-    }
-}
-
-fn place_at(addressing: Addressing, at: u16, r: Registers) -> u16
-    ensures { result ≡ addressedBy addressing at r }
-{
-    match addressing {
-        Addressing::Plain => at,
-        Addressing::Indexed(i) => past(at, index(i, r)),
-    }
+        _ => return None,
+    })
 }
 
 // The codes that have an address word.
-fn addressed(word: u16, r: Registers, pages: &[u16], memory: &mut [u16]) -> Went
+fn addressed(word: u16, r: Registers, pages: &[u16], memory: &mut [u16]) -> Option<Registers>
     ensures { Tried pages.now (rule (reading word) r) r memory.old result memory.new }
 {
-    let second = past(r.p, 1);
-    let Got::Value(from) = read_word(pages, memory, r.wmap, Map::Execute, second, r.a, r.b) else {
-        return Went::Not;
-    };
-    let Reach::At(to) = lead(from, r, pages, memory) else {
-        return Went::Not;
-    };
-    match asks(word) {
+    let from = r.read(Map::Execute, past(r.p, 1), pages, memory).ok()?;
+    let to = lead(from, r, pages, memory)?;
+    match asks(word)? {
         Asked::Take(taking, addressing) => {
-            take(taking, place_at(addressing, to, r), r, pages, memory)
+            take(taking, addressing.address(to, r), r, pages, memory)
         }
         Asked::Put(source, addressing) => {
-            let place = place_at(addressing, to, r);
-            put(value_of(source, r), place, r, pages, memory)
+            let at = addressing.address(to, r);
+            put(source.value(r), at, past(r.p, 2), r, pages, memory)
         }
-        Asked::Nothing => Went::Not,
     }
 }
 
 // A word with bit 15 set and bits 14 to 12 clear.
-pub(crate) fn extend(word: u16, r: Registers, pages: &[u16], memory: &mut [u16]) -> Went
+pub(crate) fn extend(
+    word: u16,
+    r: Registers,
+    pages: &[u16],
+    memory: &mut [u16],
+) -> Option<Registers>
     ensures { Tried pages.now (rule (reading word) r) r memory.old result memory.new }
 {
     if word / 0o2000 % 2 == 1 {
-        return Went::Not;
+        return None;
     }
-    match alone(word, r) {
-        Went::Done(s) => Went::Done(s),
-        Went::Not => addressed(word, r, pages, memory),
+    if let Some(s) = alone(word, r) {
+        return Some(s);
     }
+    addressed(word, r, pages, memory)
 }

@@ -3,7 +3,7 @@ ghost use Rattle.std.specs.Prelude.{◌≡◌, ◌/◌, ◌%◌};
 ghost use Rattle.code.specs.Instructions.{shift_fields, alter_fields};
 ghost use Rattle.effects.specs.Group.{shift_rotated, alter_skipped};
 
-use acts::record::{Registers, go_ahead, set_register};
+use acts::record::Registers;
 use code::codes::Register;
 use code::instructions::{alter_skip_of, shift_rotate_of};
 use effects::group::{alter_extend, alter_word, is_met, shift_place};
@@ -19,12 +19,12 @@ pub(crate) fn shift_a(word: u16, r: Registers) -> Registers
     let second = i.shift2;
     let t = shift_place(i.enabled1, first, r.a, r.e);
     let u = shift_place(i.enabled2, second, t.word, !i.cle & t.e);
-    let mut s = set_register(Register::A, r, u.word);
+    let mut s = r.with_register(Register::A, u.word);
     s.e = u.e;
     if i.sla & (t.word % 2 == 0) {
-        go_ahead(2, s)
+        s.ahead(2)
     } else {
-        go_ahead(1, s)
+        s.ahead(1)
     }
 }
 
@@ -44,11 +44,11 @@ pub(crate) fn alter_a(word: u16, r: Registers) -> Registers
         s = set_flags(t, s);
         u = t.word;
     }
-    s = set_register(Register::A, s, u);
+    s = s.with_register(Register::A, u);
     if is_met(i, r.e, w, u) {
-        go_ahead(2, s)
+        s.ahead(2)
     } else {
-        go_ahead(1, s)
+        s.ahead(1)
     }
 }
 
@@ -61,12 +61,12 @@ pub(crate) fn shift_b(word: u16, r: Registers) -> Registers
     let second = i.shift2;
     let t = shift_place(i.enabled1, first, r.b, r.e);
     let u = shift_place(i.enabled2, second, t.word, !i.cle & t.e);
-    let mut s = set_register(Register::B, r, u.word);
+    let mut s = r.with_register(Register::B, u.word);
     s.e = u.e;
     if i.sla & (t.word % 2 == 0) {
-        go_ahead(2, s)
+        s.ahead(2)
     } else {
-        go_ahead(1, s)
+        s.ahead(1)
     }
 }
 
@@ -86,10 +86,10 @@ pub(crate) fn alter_b(word: u16, r: Registers) -> Registers
         s = set_flags(t, s);
         u = t.word;
     }
-    s = set_register(Register::B, s, u);
+    s = s.with_register(Register::B, u);
     if is_met(i, r.e, w, u) {
-        go_ahead(2, s)
+        s.ahead(2)
     } else {
-        go_ahead(1, s)
+        s.ahead(1)
     }
 }

@@ -5,68 +5,68 @@ ghost use Rattle.lane.specs.Lane.{Tried, carried, Rolls};
 
 use crate::codes::extend;
 use crate::group::{alter_a, alter_b, shift_a, shift_b};
-use crate::references::{put, reach, take};
-use crate::went::{Reach, Went};
+use crate::references::{put, reach, step_and_skip, take};
 use acts::record::Registers;
-use maps::access::read_word;
+use code::codes::Register;
+use effects::ways::Taking;
 use maps::pages::Map;
-use maps::troubles::Got;
+use word::sums::past;
 
 // A memory reference at its address, or a word of shift/rotate or alter/skip. One match, so that there is one dispatch.
-fn carry(word: u16, at: u16, r: Registers, pages: &[u16], memory: &mut [u16]) -> Went
+fn carry(word: u16, at: u16, r: Registers, pages: &[u16], memory: &mut [u16]) -> Option<Registers>
     ensures { Tried pages.now (carried word at r) r memory.old result memory.new }
 {
     match word / 0o4000 % 16 {
         0 => {
             if word / 0o2000 % 2 == 1 {
-                Went::Done(alter_a(word, r))
+                Some(alter_a(word, r))
             } else {
-                Went::Done(shift_a(word, r))
+                Some(shift_a(word, r))
             }
         }
         1 => {
             if word / 0o2000 % 2 == 1 {
-                Went::Done(alter_b(word, r))
+                Some(alter_b(word, r))
             } else {
-                Went::Done(shift_b(word, r))
+                Some(shift_b(word, r))
             }
         }
-        2 => take(2, at, r, pages, memory),
-        4 => take(4, at, r, pages, memory),
-        6 => take(6, at, r, pages, memory),
-        8 => take(8, at, r, pages, memory),
-        9 => take(9, at, r, pages, memory),
-        10 => take(10, at, r, pages, memory),
-        11 => take(11, at, r, pages, memory),
-        12 => take(12, at, r, pages, memory),
-        13 => take(13, at, r, pages, memory),
-        _ => put(word / 0o4000 % 16, at, r, pages, memory),
+        2 => take(Taking::And, at, r, pages, memory),
+        3 => put(past(r.p, 1), at, past(at, 1), r, pages, memory),
+        4 => take(Taking::Xor, at, r, pages, memory),
+        5 => Some(r.at(at)),
+        6 => take(Taking::Ior, at, r, pages, memory),
+        7 => step_and_skip(at, r, pages, memory),
+        8 => take(Taking::Add(Register::A), at, r, pages, memory),
+        9 => take(Taking::Add(Register::B), at, r, pages, memory),
+        10 => take(Taking::Compare(Register::A), at, r, pages, memory),
+        11 => take(Taking::Compare(Register::B), at, r, pages, memory),
+        12 => take(Taking::Load(Register::A), at, r, pages, memory),
+        13 => take(Taking::Load(Register::B), at, r, pages, memory),
+        14 => put(r.a, at, past(r.p, 1), r, pages, memory),
+        _ => put(r.b, at, past(r.p, 1), r, pages, memory),
     }
 }
 
 // One step, if it is a frequent one.
-fn quick(r: Registers, pages: &[u16], memory: &mut [u16]) -> Went
+fn quick(r: Registers, pages: &[u16], memory: &mut [u16]) -> Option<Registers>
     ensures { Tried pages.now (step_act r) r memory.old result memory.new }
 {
     if r.trap != 0 {
-        return Went::Not;
+        return None;
     }
-    let Got::Value(word) = read_word(pages, memory, r.wmap, Map::Execute, r.p, r.a, r.b) else {
-        return Went::Not;
-    };
+    let word = r.read(Map::Execute, r.p, pages, memory).ok()?;
     if word >= 0o100000 {
         if word / 0o4000 % 16 < 2 {
             return extend(word, r, pages, memory);
         }
     }
-    let Reach::At(at) = reach(word, r, pages, memory) else {
-        return Went::Not;
-    };
+    let at = reach(word, r, pages, memory)?;
     carry(word, at, r, pages, memory)
 }
 
 // The steps that were made, and the registers after them.
-#[derive(Clone, Copy)]
+#[derive(Clone, Copy, Debug, PartialEq, Eq)]
 pub struct Rolled {
     pub registers: Registers,
     pub count: u32,
@@ -77,19 +77,17 @@ pub fn lane(budget: u32, r: Registers, pages: &[u16], memory: &mut [u16]) -> Rol
     ensures { (result.count ≤ budget) × Rolls pages.now r memory.old result.count result.registers memory.new }
 {
     let mut s = r;
-    let mut count: u32 = 0;
-    while count < budget {
-        let Went::Done(t) = quick(s, pages, memory) else {
+    for count in 0..budget {
+        let Some(t) = quick(s, pages, memory) else {
             return Rolled {
                 registers: s,
-                count: count,
+                count,
             };
         };
         s = t;
-        count += 1;
     }
     Rolled {
         registers: s,
-        count: count,
+        count: budget,
     }
 }

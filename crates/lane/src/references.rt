@@ -1,165 +1,118 @@
 // Memory references: the address, and what is done there. A skip is a branch, so that the next fetch need not wait for the word.
 ghost use Rattle.std.specs.Prelude.{◌≡◌, ◌/◌, ◌%◌};
 ghost use Rattle.word.specs.Words.{bit};
-ghost use Rattle.acts.specs.Acts.{load, fin};
+ghost use Rattle.maps.specs.declared.pages.Map.TheVariants.{Execute};
+ghost use Rattle.acts.specs.Acts.{load, save, fin, go_on};
 ghost use Rattle.effects.specs.Ways.{taken as takenBy, way_act};
+ghost use Rattle.effects.specs.declared.ways.Way.TheVariants.{StepAndSkip};
 ghost use Rattle.rules.specs.Rules.{memory_word};
-ghost use Rattle.lane.specs.Lane.{Tried, Led, taking_at, put_at};
+ghost use Rattle.lane.specs.Lane.{Tried, Led, Keeps};
 
-use crate::went::{Reach, Went};
-use acts::record::{Registers, go_ahead, go_to, set_register};
+use acts::record::Registers;
 use code::codes::Register;
-use effects::ways::set_flags;
-use maps::access::read_word;
+use effects::ways::Taking;
 use maps::pages::{Map, Place, Purpose, place_of};
-use maps::troubles::Got;
 use rules::memory::memory_word;
-use word::sums::{add, increment, past};
+use word::sums::increment;
 
 // Where an address word leads, by one level at most.
 #[tactic(auto, using(crate::proofs::Ways::once, crate::proofs::Ways::direct))]
-pub(crate) fn lead(word: u16, r: Registers, pages: &[u16], memory: &[u16]) -> Reach
+pub(crate) fn lead(word: u16, r: Registers, pages: &[u16], memory: &[u16]) -> Option<u16>
     ensures { Led pages.now word r memory.now result }
 {
     if word < 0o100000 {
-        return Reach::At(word);
+        return Some(word);
     }
-    let Got::Value(next) = read_word(pages, memory, r.wmap, Map::Execute, word, r.a, r.b) else {
-        return Reach::Not;
-    };
+    let next = r.read(Map::Execute, word, pages, memory).ok()?;
     if next < 0o100000 {
-        return Reach::At(next);
+        return Some(next);
     }
-    Reach::Not
+    None
 }
 
 // The address of a memory reference. The word's own bit 15 is tested first: most have it clear.
-pub(crate) fn reach(word: u16, r: Registers, pages: &[u16], memory: &[u16]) -> Reach
+pub(crate) fn reach(word: u16, r: Registers, pages: &[u16], memory: &[u16]) -> Option<u16>
     ensures { Led pages.now (memory_word (bit 15 word) (bit 10 word) (word % 0o2000) r.p) r memory.now result }
 {
     let current = word / 0o2000 % 2 == 1;
     let offset = word % 0o2000;
     if word < 0o100000 {
-        return Reach::At(memory_word(false, current, offset, r.p));
+        return Some(memory_word(false, current, offset, r.p));
     }
     lead(memory_word(true, current, offset, r.p), r, pages, memory)
 }
 
 // What a memory reference that reads does with the word at its address.
-fn taken(operation: u16, v: u16, r: Registers) -> Registers
-    ensures { result ≡ takenBy (taking_at operation) v 1 r }
+fn taken(taking: Taking, v: u16, r: Registers) -> Registers
+    ensures { result ≡ takenBy taking v 1 r }
 {
-    match operation {
-        2 => go_ahead(1, set_register(Register::A, r, r.a & v)),
-        4 => go_ahead(1, set_register(Register::A, r, r.a ^ v)),
-        6 => go_ahead(1, set_register(Register::A, r, r.a | v)),
-        8 => {
-            let t = add(r.a, v);
-            go_ahead(1, set_register(Register::A, set_flags(t, r), t.word))
-        }
-        9 => {
-            let t = add(r.b, v);
-            go_ahead(1, set_register(Register::B, set_flags(t, r), t.word))
-        }
-        10 => {
-            if r.a == v {
-                go_ahead(1, r)
+    match taking {
+        Taking::Compare(g) => {
+            if r.register(g) == v {
+                r.ahead(1)
             } else {
-                go_ahead(2, r)
+                r.ahead(2)
             }
         }
-        11 => {
-            if r.b == v {
-                go_ahead(1, r)
-            } else {
-                go_ahead(2, r)
-            }
-        }
-        12 => go_ahead(1, set_register(Register::A, r, v)),
-        _ => go_ahead(1, set_register(Register::B, r, v)),
+        _ => taking.apply(v, 1, r),
     }
 }
 
-pub(crate) fn take(operation: u16, at: u16, r: Registers, pages: &[u16], memory: &[u16]) -> Went
-    ensures { Tried pages.now (load Map.Execute at (λ v. fin (takenBy (taking_at operation) v 1))) r memory.now result memory.now }
+pub(crate) fn take(
+    taking: Taking,
+    at: u16,
+    r: Registers,
+    pages: &[u16],
+    memory: &[u16],
+) -> Option<Registers>
+    ensures { Tried pages.now (load Execute at (λ v. fin (takenBy taking v 1))) r memory.now result memory.now }
 {
-    let Got::Value(v) = read_word(pages, memory, r.wmap, Map::Execute, at, r.a, r.b) else {
-        return Went::Not;
+    let v = r.read(Map::Execute, at, pages, memory).ok()?;
+    Some(taken(taking, v, r))
+}
+
+// A word is stored in memory. One that goes to A or B is left.
+pub(crate) fn store(value: u16, at: u16, wmap: u16, pages: &[u16], memory: &mut [u16]) -> Option<()>
+    ensures { Keeps pages.now wmap at value memory.old result memory.new }
+{
+    let length = memory.len();
+    let place = place_of(pages, wmap, Map::Execute, Purpose::Store, at, length).ok()?;
+    let Place::Memory(index) = place else {
+        return None;
     };
-    Went::Done(taken(operation, v, r))
+    memory[index] = value;
+    Some(())
 }
 
-// JSB, JMP, ISZ, STA and STB. The arms have one end, so that the record stays in the processor's registers.
-pub(crate) fn put(operation: u16, at: u16, r: Registers, pages: &[u16], memory: &mut [u16]) -> Went
-    ensures { Tried pages.now (way_act (put_at operation) r at 1) r memory.old result memory.new }
+// A word is stored, and P is then elsewhere.
+pub(crate) fn put(
+    value: u16,
+    at: u16,
+    to: u16,
+    r: Registers,
+    pages: &[u16],
+    memory: &mut [u16],
+) -> Option<Registers>
+    ensures { Tried pages.now (save Execute at value (go_on to)) r memory.old result memory.new }
 {
-    let mut s = r;
-    match operation {
-        3 => {
-            let Place::Memory(i) = place_of(
-                pages,
-                r.wmap,
-                Map::Execute,
-                Purpose::Store,
-                at,
-                memory.len(),
-            ) else {
-                return Went::Not;
-            };
-            memory[i] = past(r.p, 1);
-            s = go_to(past(at, 1), r);
-        }
-        5 => s = go_to(at, r),
-        7 => {
-            let Got::Value(v) = read_word(pages, memory, r.wmap, Map::Execute, at, r.a, r.b) else {
-                return Went::Not;
-            };
-            let Place::Memory(i) = place_of(
-                pages,
-                r.wmap,
-                Map::Execute,
-                Purpose::Store,
-                at,
-                memory.len(),
-            ) else {
-                return Went::Not;
-            };
-            let u = increment(v).word;
-            memory[i] = u;
-            if u == 0 {
-                s = go_ahead(2, r);
-            } else {
-                s = go_ahead(1, r);
-            }
-        }
-        14 => {
-            let Place::Memory(i) = place_of(
-                pages,
-                r.wmap,
-                Map::Execute,
-                Purpose::Store,
-                at,
-                memory.len(),
-            ) else {
-                return Went::Not;
-            };
-            memory[i] = r.a;
-            s = go_ahead(1, r);
-        }
-        _ => {
-            let Place::Memory(i) = place_of(
-                pages,
-                r.wmap,
-                Map::Execute,
-                Purpose::Store,
-                at,
-                memory.len(),
-            ) else {
-                return Went::Not;
-            };
-            memory[i] = r.b;
-            s = go_ahead(1, r);
-        }
+    store(value, at, r.wmap, pages, memory)?;
+    Some(r.at(to))
+}
+
+// ISZ: read, then stored plus one.
+pub(crate) fn step_and_skip(
+    at: u16,
+    r: Registers,
+    pages: &[u16],
+    memory: &mut [u16],
+) -> Option<Registers>
+    ensures { Tried pages.now (way_act StepAndSkip r at 1) r memory.old result memory.new }
+{
+    let stepped = increment(r.read(Map::Execute, at, pages, memory).ok()?).word;
+    store(stepped, at, r.wmap, pages, memory)?;
+    if stepped == 0 {
+        Some(r.ahead(2))
+    } else {
+        Some(r.ahead(1))
     }
-    Went::Done(s)
 }

@@ -8,13 +8,13 @@ use Rattle.lane.proofs.group.alter_a.Goals as goal
 use Rattle.lane.proofs.group.alter_a.Goals.{then-i, else-i}
 
 pub returns-then-is_met : goal.returns-then-is_met
-returns-then-is_met c = rw (← c.alter_skip_of-i.ensures) (c.go_ahead.ensures ∙ rw c.set_register-s.ensures (elim c.if-i.branch [
+returns-then-is_met c = rw (← c.alter_skip_of-i.ensures) (c.ahead.ensures ∙ rw c.with_register-s.ensures (elim c.if-i.branch [
   | then-i w ↦ with_ina A c.alter_skip_of-i.result c.args.r (ap (λ (i : AlterSkip). i.register) c.alter_skip_of-i.ensures ∙ ap register_at c.requires) c.alter_word-w.ensures c.alter_extend.ensures (rw (← c.is_met.ensures, c.if-is_met.true) refl) w.if-i.true (w.s-is ∙ w.set_flags-s.ensures ∙ rw w.increment-t.ensures refl) (w.u-is ∙ rw w.increment-t.ensures refl)
   | else-i w ↦ no_ina A c.alter_skip_of-i.result c.args.r (ap (λ (i : AlterSkip). i.register) c.alter_skip_of-i.ensures ∙ ap register_at c.requires) c.alter_word-w.ensures c.alter_extend.ensures (rw (← c.is_met.ensures, c.if-is_met.true) refl) w.if-i.false w.s-is w.u-is
 ]))
 
 pub returns-else-is_met : goal.returns-else-is_met
-returns-else-is_met c = rw (← c.alter_skip_of-i.ensures) (c.go_ahead-else-is_met.ensures ∙ rw c.set_register-s.ensures (elim c.if-i.branch [
+returns-else-is_met c = rw (← c.alter_skip_of-i.ensures) (c.ahead-else-is_met.ensures ∙ rw c.with_register-s.ensures (elim c.if-i.branch [
   | then-i w ↦ with_ina A c.alter_skip_of-i.result c.args.r (ap (λ (i : AlterSkip). i.register) c.alter_skip_of-i.ensures ∙ ap register_at c.requires) c.alter_word-w.ensures c.alter_extend.ensures (rw (← c.is_met.ensures, c.if-is_met.false) refl) w.if-i.true (w.s-is ∙ w.set_flags-s.ensures ∙ rw w.increment-t.ensures refl) (w.u-is ∙ rw w.increment-t.ensures refl)
   | else-i w ↦ no_ina A c.alter_skip_of-i.result c.args.r (ap (λ (i : AlterSkip). i.register) c.alter_skip_of-i.ensures ∙ ap register_at c.requires) c.alter_word-w.ensures c.alter_extend.ensures (rw (← c.is_met.ensures, c.if-is_met.false) refl) w.if-i.false w.s-is w.u-is
 ]))

@@ -8,7 +8,7 @@ use Rattle.lane.proofs.Ways.{even}
 use Rattle.lane.proofs.group.shift_b.Goals as goal
 
 pub returns-then-i-t : goal.returns-then-i-t
-returns-then-i-t c = rw (← c.shift_rotate_of-i.ensures) (c.go_ahead.ensures ∙ rw c.set_register-s.ensures (shifted_by B c.shift_rotate_of-i.result c.args.r (ap (λ (i : ShiftRotate). i.register) c.shift_rotate_of-i.ensures ∙ ap register_at c.requires) c.shift_place-t.ensures c.shift_place-u.ensures (rw (← even c.shift_place-t.result.word, c.if-i-t.true) refl)))
+returns-then-i-t c = rw (← c.shift_rotate_of-i.ensures) (c.ahead.ensures ∙ rw c.with_register-s.ensures (shifted_by B c.shift_rotate_of-i.result c.args.r (ap (λ (i : ShiftRotate). i.register) c.shift_rotate_of-i.ensures ∙ ap register_at c.requires) c.shift_place-t.ensures c.shift_place-u.ensures (rw (← even c.shift_place-t.result.word, c.if-i-t.true) refl)))
 
 pub returns-else-i-t : goal.returns-else-i-t
-returns-else-i-t c = rw (← c.shift_rotate_of-i.ensures) (c.go_ahead-else-i-t.ensures ∙ rw c.set_register-s.ensures (shifted_by B c.shift_rotate_of-i.result c.args.r (ap (λ (i : ShiftRotate). i.register) c.shift_rotate_of-i.ensures ∙ ap register_at c.requires) c.shift_place-t.ensures c.shift_place-u.ensures (rw (← even c.shift_place-t.result.word, c.if-i-t.false) refl)))
+returns-else-i-t c = rw (← c.shift_rotate_of-i.ensures) (c.ahead-else-i-t.ensures ∙ rw c.with_register-s.ensures (shifted_by B c.shift_rotate_of-i.result c.args.r (ap (λ (i : ShiftRotate). i.register) c.shift_rotate_of-i.ensures ∙ ap register_at c.requires) c.shift_place-t.ensures c.shift_place-u.ensures (rw (← even c.shift_place-t.result.word, c.if-i-t.false) refl)))
