@@ -11,7 +11,7 @@ ghost use Rattle.lane.specs.Lane.{Tried, Led, Keeps};
 use acts::record::Registers;
 use code::codes::Register;
 use effects::ways::Taking;
-use maps::pages::{Map, Place, Purpose, place_of};
+use maps::pages::{Map, Maps, Place, Purpose};
 use rules::memory::memory_word;
 use word::sums::increment;
 
@@ -76,7 +76,8 @@ pub(crate) fn store(value: u16, at: u16, wmap: u16, pages: &[u16], memory: &mut 
     ensures { Keeps pages.now wmap at value memory.old result memory.new }
 {
     let length = memory.len();
-    let place = place_of(pages, wmap, Map::Execute, Purpose::Store, at, length).ok()?;
+    let maps = Maps { pages, wmap };
+    let place = maps.place(Map::Execute, Purpose::Store, at, length).ok()?;
     let Place::Memory(index) = place else {
         return None;
     };

@@ -11,7 +11,7 @@ use crate::strings::{Element, count_at, is_none};
 use acts::record::Registers;
 use acts::replies::Stop;
 use code::codes::Register;
-use maps::pages::{Map, Place, Purpose, is_open, place_of, presence_of};
+use maps::pages::{Map, Maps, Place, Purpose};
 use maps::troubles::Trouble;
 use word::bits::{byte_of, with_byte};
 
@@ -56,7 +56,11 @@ impl Element {
     ) -> usize
         ensures { (index : ℕ) → place pages.now r.wmap map purpose (word_at self at) (length memory.now) ≡ Good (Where.Memory index) → result ≡ place_in self index at }
     {
-        match place_of(pages, r.wmap, map, purpose, self.word_at(at), memory.len()) {
+        let maps = Maps {
+            pages,
+            wmap: r.wmap,
+        };
+        match maps.place(map, purpose, self.word_at(at), memory.len()) {
             Ok(Place::Memory(index)) => match self {
                 Element::Word => index,
                 Element::Byte => index * 2 + (at % 2) as usize,
@@ -192,7 +196,11 @@ impl Span {
         ensures { (m : List ℕ) (k : Act) → exec pages.now (opens_all self.element self.map purpose self.at self.count k) r m ≡ on_tested result (exec pages.now k r m) }
     {
         self.test_pages(|word| {
-            if is_open(pages, r.wmap, self.map, purpose, word) {
+            let maps = Maps {
+                pages,
+                wmap: r.wmap,
+            };
+            if maps.is_open(self.map, purpose, word) {
                 Ok(())
             } else {
                 Err(Trouble::Closed)
@@ -204,7 +212,13 @@ impl Span {
     fn test_present(self, r: Registers, pages: &[u16], memory: &[u16]) -> Result<(), Trouble>
         ensures { (k : Act) → exec pages.now (present_all self.element self.map self.at self.count k) r memory.now ≡ on_tested result (exec pages.now k r memory.now) }
     {
-        self.test_pages(|word| presence_of(pages, r.wmap, self.map, word, memory.len()))
+        self.test_pages(|word| {
+            let maps = Maps {
+                pages,
+                wmap: r.wmap,
+            };
+            maps.presence(self.map, word, memory.len())
+        })
     }
 }
 

@@ -11,7 +11,7 @@ use acts::replies::{Refusal, Stop};
 use acts::stores::put;
 use code::codes::{Bits, Register};
 use maps::bytes::{byte_word, is_low_byte};
-use maps::pages::{Map, Place, Purpose, is_register, place_of};
+use maps::pages::{Map, Maps, Place, Purpose};
 use maps::troubles::Trouble;
 use std::cmp::Ordering;
 use word::bits::{byte_of, clear_bits, every_bit_set, with_byte};
@@ -65,7 +65,7 @@ impl Element {
         ensures { Gives pages.now (load_element self at) r memory.now result }
     {
         let holder = self.word_at(at);
-        if is_register(Map::Execute, holder) {
+        if Map::Execute.is_register(holder) {
             return Err(Trouble::InRegisters);
         }
         load_word(holder, r, pages, memory)
@@ -134,14 +134,11 @@ pub fn store_byte(r: Registers, pages: &[u16], memory: &mut [u16]) -> Result<Reg
     ensures { Performs pages.now (byte_stored r) r memory.old result memory.new }
 {
     let holder = byte_word(r.b);
-    let place = place_of(
+    let maps = Maps {
         pages,
-        r.wmap,
-        Map::Execute,
-        Purpose::Both,
-        holder,
-        memory.len(),
-    )?;
+        wmap: r.wmap,
+    };
+    let place = maps.place(Map::Execute, Purpose::Both, holder, memory.len())?;
     let Place::Memory(index) = place else {
         return Err(Stop::Refused(Refusal::InRegisters));
     };
