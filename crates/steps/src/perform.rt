@@ -45,6 +45,7 @@ fn go_way(
 }
 
 // A word that isn't built: with protection on, 105700 to 105711 are violations.
+#[tactic(auto, unfolding(acts::specs::Acts::exec))]
 fn not_built(w: u16, r: Registers) -> Result<Registers, Stop>
     ensures { PerformsAlone (cond (protecting r.wmap && privileged w) violating (stop Refusal.NotBuilt)) r result }
 {
@@ -55,6 +56,7 @@ fn not_built(w: u16, r: Registers) -> Result<Registers, Stop>
 }
 
 // What was asked for is carried out.
+#[tactic(auto, unfolding(acts::specs::Acts::exec))]
 fn perform(
     action: Action,
     r: Registers,

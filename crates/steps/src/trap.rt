@@ -24,12 +24,7 @@ fn leave_trap(to: u16, r: Registers) -> Registers
     }
 }
 
-fn trap_jump(
-    word: u16,
-    r: Registers,
-    pages: &[u16],
-    memory: &[u16],
-) -> Result<Registers, Stop>
+fn trap_jump(word: u16, r: Registers, pages: &[u16], memory: &[u16]) -> Result<Registers, Stop>
     ensures { Performs pages.now (following word (λ m. fin (λ s. with_trap (with_p s m) 0))) r memory.now result memory.now }
 {
     let at = r.follow(word, pages, memory)?;
