@@ -1,6 +1,5 @@
 -- A run, one step after another: what a step's answer makes of the steps that are left.
---     going_on, going_out    a step that replied 0, and one that did not
---     good_next              the call stays good
+--     went_on, stopped_by    a step that replied 0, and one that did not
 --     turn_on, turn_out      the same after steps of a budget
 --     finished               the budget is spent
 --     entered_none, entered_one, ended_at_once    the first step
@@ -14,21 +13,23 @@ use native.Mathlib.Numerals.{add-one}
 use mathlib.Core.Path.{◌≡◌, refl, sym, ap, ap₂, ◌∙◌}
 use mathlib.Core.Bool.{Bool, true, false}
 use mathlib.Core.List.{List}
-use lib.Dec.{eqb, leb}
+use lib.Dec.{leb}
 use lib.ListN.{length}
 use Rattle.word.specs.Words.{weight}
 use Rattle.acts.specs.Replies.{number}
-use Rattle.acts.specs.Acts.{Ends, exec, answer, left}
+use Rattle.acts.specs.Acts.{Ends, exec, answer, left, settled}
 use Rattle.rules.specs.Rules.{step_act}
 use Rattle.lane.specs.Lane.{Rolls, none, one_more as more_by_one}
-use Rattle.machine.specs.Turns.{plus, Turned}
+use Rattle.std.specs.Prelude.{Result, Ok, Err}
+use Rattle.machine.specs.Turns.{plus, ended_by, Turned}
+use Rattle.acts.specs.declared.replies.Stop.{Stop}
+use Rattle.acts.proofs.Operands.{settled_given}
 use Rattle.machine.specs.Step.{good_call, stepped, Leaves, ending, counting, after, running, ran, Goes, Steps}
 use Rattle.acts.specs.declared.record.Registers.{Registers}
 use Rattle.acts.specs.declared.replies.Refusal.{Refusal}
 use Rattle.acts.specs.declared.replies.Reply.{Reply}
 use Rattle.acts.specs.declared.replies.Stepped.{Stepped}
 use Rattle.acts.specs.declared.replies.Ran.{Ran}
-use Rattle.machine.specs.declared.run.Turn.{Turn}
 use Rattle.machine.proofs.Good.{good_stepped, good_kept}
 
 pub plus_none : (l : Leaves) → l ≡ plus 0 l
@@ -37,27 +38,39 @@ plus_none l = rw zero-add
 pub plus_one : (n : ℕ) (l : Leaves) → plus n (counting l) ≡ plus (n + 1) l
 plus_one n l = rw add_assoc
 
-module _ (pages : List ℕ) (r : Registers) (m : List ℕ) (good : good_call (length pages) (length m) r ≡ true) (t : Stepped) (later : List ℕ)
-    (e : Ends r m (exec pages (step_act r) r m) t later) where
-  outcome : answer r (stepped pages r m) ≡ t
-  outcome = rw (good_stepped pages r m good) (sym e.outcome)
+module _ (pages : List ℕ) (r : Registers) (m : List ℕ) (good : good_call (length pages) (length m) r ≡ true) (g : Result Registers Stop) (later : List ℕ)
+    (e : Ends m (exec pages (step_act r) r m) g later) where
+  outcome : answer r (stepped pages r m) ≡ settled r g
+  outcome = rw (good_stepped pages r m good, e.outcome) (sym (settled_given r (exec pages (step_act r) r m)))
 
   memory : left m (stepped pages r m) ≡ later
   memory = rw (good_stepped pages r m good) (sym e.memory)
 
-  going : (n : ℕ) → running pages (suc n) r m ≡ after t later (running pages n t.registers later)
+  going : (n : ℕ) → running pages (suc n) r m ≡ after (settled r g) later (running pages n (settled r g).registers later)
   unfolding running
   going n = ap₂ (λ (x : Stepped) (l : List ℕ). after x l (running pages n x.registers l)) outcome memory
 
-  pub going_on : (n : ℕ) → eqb (number t.reply) 0 ≡ true → running pages (suc n) r m ≡ counting (running pages n t.registers later)
-  going_on n h = going n ∙ rw h
+  next : good_call (length pages) (length later) (settled r g).registers ≡ true
+  next = rw (outcome, memory) at (good_kept pages r m good)
 
-  pub going_out : (n : ℕ) → eqb (number t.reply) 0 ≡ false
-      → running pages (suc n) r m ≡ ending t.reply (weight (eqb (number t.reply) 1)) t.registers later
-  going_out n h = going n ∙ rw h
+-- a turn by what the step gave
+module _ (pages : List ℕ) (r : Registers) (m : List ℕ) (good : good_call (length pages) (length m) r ≡ true) (later : List ℕ) where
+  pub went_on : (s : Registers) → Ends m (exec pages (step_act r) r m) (Ok s) later → Turned pages r m (Ok s) later
+  went_on s e = (next pages r m good (Ok s) later e, λ left. going pages r m good (Ok s) later e left)
 
-  pub good_next : good_call (length pages) (length later) t.registers ≡ true
-  good_next = rw (outcome, memory) at (good_kept pages r m good)
+  pub stopped_by : (stop : Stop) → Ends m (exec pages (step_act r) r m) (Err stop) later → Turned pages r m (Err (ended_by stop r)) later
+  stopped_by Stop.Violation e = (omega arith, λ left. going pages r m good (Err Stop.Violation) later e left)
+  stopped_by (Stop.Refused refusal) e = refusals refusal e
+    where
+      refusals : (refusal : Refusal) → Ends m (exec pages (step_act r) r m) (Err (Stop.Refused refusal)) later
+          → Turned pages r m (Err (ended_by (Stop.Refused refusal) r)) later
+      refusals Refusal.InputOutput e = (omega arith, λ left. going pages r m good (Err (Stop.Refused Refusal.InputOutput)) later e left)
+      refusals Refusal.Endless e = (omega arith, λ left. going pages r m good (Err (Stop.Refused Refusal.Endless)) later e left)
+      refusals (Refusal.Absent page) e = (omega arith, λ left. going pages r m good (Err (Stop.Refused (Refusal.Absent page))) later e left)
+      refusals Refusal.InRegisters e = (omega arith, λ left. going pages r m good (Err (Stop.Refused Refusal.InRegisters)) later e left)
+      refusals Refusal.NotBuilt e = (omega arith, λ left. going pages r m good (Err (Stop.Refused Refusal.NotBuilt)) later e left)
+      refusals Refusal.TrapCell e = (omega arith, λ left. going pages r m good (Err (Stop.Refused Refusal.TrapCell)) later e left)
+  stopped_by Stop.BadCall e = (omega arith, λ left. going pages r m good (Err Stop.BadCall) later e left)
 
 -- after `count` steps of a budget, one more, which goes on or ends the run
 module _ (pages m n : List ℕ) (r : Registers) {start : Leaves} (budget count : ℕ) (few : count < budget)
@@ -92,11 +105,11 @@ pub record Entered (pages : List ℕ) (budget : ℕ) (r : Registers) (m : List �
 pub entered_none : {pages m : List ℕ} {r : Registers} (budget : ℕ) → good_call (length pages) (length m) r ≡ true → Entered pages budget r m r m 0
 entered_none budget good = record { few = omega arith; good = good; goes = rw sub-zero (plus_none _) }
 
-pub entered_one : {pages m n : List ℕ} {r s : Registers} (budget : ℕ) → (budget ≡ 0 → ⊥) → Turned pages r m (Turn.On s) n → Entered pages budget r m s n 1
+pub entered_one : {pages m n : List ℕ} {r s : Registers} (budget : ℕ) → (budget ≡ 0 → ⊥) → Turned pages r m (Ok s) n → Entered pages budget r m s n 1
 entered_one {pages} {m} {n} {r} {s} budget some h =
     record { few = omega arith; good = h.0; goes = turn_on pages m n r budget 0 (omega arith) (rw sub-zero (plus_none _)) s h.1 }
 
-pub ended_at_once : (pages m n : List ℕ) (r : Registers) {x : Ran} (budget : ℕ) → (budget ≡ 0 → ⊥) → Turned pages r m (Turn.Ended x) n
+pub ended_at_once : (pages m n : List ℕ) (r : Registers) {x : Ran} (budget : ℕ) → (budget ≡ 0 → ⊥) → Turned pages r m (Err x) n
     → Goes (running pages budget r m) x n
 ended_at_once pages m n r budget some h =
     let q : budget ≡ suc (budget - 1) = omega arith in
@@ -113,11 +126,12 @@ pub rolled : {pages m : List ℕ} {r : Registers} {n : List ℕ} {s : Registers}
 rolled good none = record { good = good; goes = λ left. rw zero-add (plus_none _) }
 rolled {pages} {m} {r} {n = later} {s = t} good (more_by_one {count = k} {s = s} {n = n} h e) =
     let before = rolled good h in
-    let done : Ends s n (exec pages (step_act s) s n) (record { reply = Reply.Completed; registers = t }) later = rw e (record { outcome = refl; memory = refl }) in
+    let done : Ends n (exec pages (step_act s) s n) (Ok t) later = rw e (record { outcome = refl; memory = refl }) in
+    let turn = went_on pages s n before.good later t done in
     record {
-      good = good_next pages s n before.good (record { reply = Reply.Completed; registers = t }) later done;
+      good = turn.0;
       goes = λ left. rw (suc-add, ← add-suc)
-          (before.goes (suc left) ∙ ap (plus k) (going_on pages s n before.good (record { reply = Reply.Completed; registers = t }) later done left refl)
+          (before.goes (suc left) ∙ ap (plus k) (turn.1 left)
           ∙ plus_one k (running pages left t later) ∙ rw add-one);
     }
 

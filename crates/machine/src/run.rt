@@ -1,49 +1,40 @@
 // A run of steps, with a budget.
 ghost use Rattle.std.specs.Prelude.{◌≡◌, true, eqb, length};
 ghost use Rattle.machine.specs.Step.{good_call, running, Leaves, Runs, Goes};
-ghost use Rattle.machine.specs.Turns.{Turned};
+ghost use Rattle.machine.specs.Turns.{ended_by, Turned};
 
 use crate::step::is_good_call;
-use acts::record::{Registers, apart};
-use acts::replies::{Ran, Reply, number_of};
+use acts::record::Registers;
+use acts::replies::{Ran, Reply, Stepped, Stop, settle};
 use lane::lane::lane;
 use steps::perform::fetch;
 
-// What one step makes of a run: it goes on, or it has ended with this step.
-#[derive(Clone, Copy)]
-pub enum Turn {
-    On(Registers),
-    Ended(Ran),
+// How a run ends with a step that stopped: a violation is counted.
+fn end_by(stop: Stop, r: Registers) -> Ran
+    ensures { result ≡ ended_by stop r }
+{
+    let Stepped { reply, registers } = settle(Err(stop), r);
+    Ran {
+        reply,
+        count: u32::from(stop == Stop::Violation),
+        registers,
+    }
 }
 
-// One step by the general way. The call is good.
-fn take_turn(r: Registers, pages: &[u16], memory: &mut [u16]) -> Turn
+// One step by the general way: the registers that the run goes on with, or how it ended with this step. The call is good.
+fn take_turn(r: Registers, pages: &[u16], memory: &mut [u16]) -> Result<Registers, Ran>
     requires { good_call (length pages.now) (length memory.old) r ≡ true }
     ensures { Turned pages.now r memory.old result memory.new }
 {
-    let t = fetch(r, pages, memory);
-    let reply = t.reply;
-    let s = t.registers;
-    let n = number_of(reply);
-    if n == 0 {
-        return Turn::On(s);
+    match fetch(r, pages, memory) {
+        Ok(s) => Ok(s),
+        Err(stop) => Err(end_by(stop, r)),
     }
-    if n == 1 {
-        return Turn::Ended(Ran {
-            reply: reply,
-            count: 1,
-            registers: s,
-        });
-    }
-    Turn::Ended(Ran {
-        reply: reply,
-        count: 0,
-        registers: s,
-    })
 }
 
 // The steps of a good call: a step keeps the call good, so it is not tested again. A trap that waits is met by the
-// first step and by no later one. Frequent steps go by the lane, and what it leaves by the general step.
+// first step and by no later one. Frequent steps go by the lane, and what it leaves by the general step, so that a turn
+// of the loop takes any number of steps.
 pub(crate) fn go(budget: u32, r: Registers, pages: &[u16], memory: &mut [u16]) -> Ran
     requires { good_call (length pages.now) (length memory.old) r ≡ true }
     ensures { Goes (running pages.now budget r memory.old) result memory.new }
@@ -58,9 +49,9 @@ pub(crate) fn go(budget: u32, r: Registers, pages: &[u16], memory: &mut [u16]) -
                 registers: r,
             };
         }
-        match take_turn(apart(r), pages, memory) {
-            Turn::Ended(x) => return x,
-            Turn::On(t) => s = apart(t),
+        match take_turn(r.apart(), pages, memory) {
+            Ok(t) => s = t.apart(),
+            Err(ran) => return ran,
         }
         count = 1;
     }
@@ -71,27 +62,24 @@ pub(crate) fn go(budget: u32, r: Registers, pages: &[u16], memory: &mut [u16]) -
         if count >= budget {
             return Ran {
                 reply: Reply::Completed,
-                count: count,
+                count,
                 registers: s,
             };
         }
-        match take_turn(apart(s), pages, memory) {
-            Turn::Ended(x) => {
-                let reply = x.reply;
-                let last = x.registers;
+        match take_turn(s.apart(), pages, memory) {
+            Ok(t) => s = t.apart(),
+            Err(ran) => {
                 return Ran {
-                    reply: reply,
-                    count: count + x.count,
-                    registers: last,
+                    count: count + ran.count,
+                    ..ran
                 };
             }
-            Turn::On(t) => s = apart(t),
         }
         count += 1;
     }
     Ran {
         reply: Reply::Completed,
-        count: count,
+        count,
         registers: s,
     }
 }

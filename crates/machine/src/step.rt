@@ -3,7 +3,7 @@ ghost use Rattle.std.specs.Prelude.{◌≡◌};
 ghost use Rattle.machine.specs.Step.{good_call, Steps};
 
 use crate::run::go;
-use acts::record::{Registers, is_valid};
+use acts::record::Registers;
 use acts::replies::{Reply, Stepped};
 
 // Whether page registers and memory of these lengths, and the record, make a good call.
@@ -11,7 +11,7 @@ pub(crate) fn is_good_call(registers: usize, words: usize, r: Registers) -> bool
     ensures { result ≡ good_call registers words r }
 {
     let whole = (words % 1024 == 0) & (1024 <= words) & (words <= 16777216);
-    (registers == 1024) & whole & is_valid(r)
+    (registers == 1024) & whole & r.is_valid()
 }
 
 // One step: a run of one.
@@ -19,12 +19,10 @@ pub fn step(r: Registers, pages: &mut [u16], memory: &mut [u16]) -> Stepped
     ensures { Steps pages.old r memory.old result pages.new memory.new }
 {
     if is_good_call(pages.len(), memory.len(), r) {
-        let t = go(1, r, pages, memory);
-        let reply = t.reply;
-        let s = t.registers;
+        let ran = go(1, r, pages, memory);
         return Stepped {
-            reply: reply,
-            registers: s,
+            reply: ran.reply,
+            registers: ran.registers,
         };
     }
     Stepped {
