@@ -73,12 +73,9 @@ pub fn take_quotient(q: Option<Quotient>, r: Registers) -> Registers
 {
     let mut s = r;
     match q {
-        Some(Quotient {
-            quotient,
-            remainder,
-        }) => {
-            s.a = quotient;
-            s.b = remainder;
+        Some(q) => {
+            s.a = q.quotient;
+            s.b = q.remainder;
             s.o = false;
         }
         None => s.o = true,

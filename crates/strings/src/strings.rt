@@ -5,8 +5,6 @@ ghost use Rattle.strings.specs.Strings.{word_at, along, value_of, order_of, load
 ghost use Rattle.strings.specs.Strings.{Compares, concluded, byte_loaded, byte_stored, none_to_do, count};
 ghost use Rattle.strings.specs.Strings.{compare_act, masked, mask_act};
 
-use std::cmp::Ordering;
-
 use acts::reads::get_address;
 use acts::record::{Registers, go_ahead, go_to, set_register, skipping};
 use acts::replies::{Stepped, completed, stop_by};
@@ -16,6 +14,7 @@ use maps::access::read_word;
 use maps::bytes::{byte_word, is_low_byte};
 use maps::pages::{Map, Place, Purpose, is_register, place_of};
 use maps::troubles::{Got, Trouble};
+use std::cmp::Ordering;
 use word::bits::{byte_of, clear_bits, every_bit_set, with_byte};
 use word::orders::{compare_bytes, compare_words};
 use word::sums::past;
