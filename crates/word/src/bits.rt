@@ -39,6 +39,7 @@ pub fn byte_of(odd: bool, word: u16) -> u8
     if odd { low } else { high }
 }
 
+// By shifts, since `from_be_bytes` takes twice the time.
 pub fn with_byte(odd: bool, word: u16, byte: u8) -> u16
     ensures { result ≡ with_byte odd word byte }
 {
