@@ -26,6 +26,10 @@ turning u end s d (suc n) some =
     let e : suc n - 1 ≡ n = omega arith in
     rw e
 
+pub ended : (pages : List ℕ) (f : Registers → Registers) (r : Registers) (m : List ℕ) → exec pages (fin f) r m ≡ done (f r) m
+unfolding exec
+ended pages f r m = refl
+
 -- the test that an order is not `Equal`
 abbrev differing : Ordering → Bool
 differing o = not (ordering_index o == ordering_index Ordering.Equal)

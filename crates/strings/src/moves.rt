@@ -295,6 +295,7 @@ impl Move {
 }
 
 // MVW and MBT.
+#[tactic(auto, using(crate::proofs::Comparisons::ended))]
 pub fn move_string(
     u: Element,
     r: Registers,
