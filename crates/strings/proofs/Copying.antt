@@ -60,10 +60,11 @@ module _ (u : Element) (i j n : ℕ) (m : List ℕ) (i' j' n' : ℕ) (m' : List 
   pub copied_fits : (i' + 1 ≤ length m * 2) × (j' + 1 ≤ length m * 2)
   copied_fits = (omega (arith, h.first, places_fit u m', h.lengths), omega (arith, h.second, places_fit u m', h.lengths))
 
-  pub copied_on : {m'' : List ℕ} → m'' ≡ carried u i' j' m' → Copied u i j n m (i' + 1) (j' + 1) (n' - 1) m''
-  copied_on e =
+  pub copied_on : {i'' j'' n'' : ℕ} {m'' : List ℕ} → i'' ≡ i' + 1 → j'' ≡ j' + 1 → n'' ≡ n' - 1 → m'' ≡ carried u i' j' m'
+      → Copied u i j n m i'' j'' n'' m''
+  copied_on x y z e =
       let p = carried_places u i' j' m' in
-      rw e
+      rw (x, y, z, e)
       (record {
         lengths = carried_length u i' j' m' ∙ h.lengths;
         first = omega (arith, h.first);
@@ -91,12 +92,11 @@ filled_on : (i n : ℕ) (m : List ℕ) (v j n' : ℕ) (m' : List ℕ) {j' n'' : 
     → j' ≡ j + 1 → n'' ≡ n' - 1 → m'' ≡ set m' j v → Filled i n m v j' n'' m''
 filled_on i n m v j n' m' some h x y z =
     let a : j + 1 - 1 ≡ j = omega arith in
-    let b : j - 1 + 1 ≡ j = omega (arith, h.past) in
     rw (x, y, z)
     (record {
       past = omega arith;
       found = rw a (get_or-set_same m' j v 0 (omega (arith, h.copied.second)));
-      copied = rw a (rw b at (copied_on Word i (i + 1) n m (j - 1) j n' m' some h.copied {m'' = set m' j v} (rw h.found)));
+      copied = copied_on Word i (i + 1) n m (j - 1) j n' m' some h.copied (omega (arith, h.past)) refl refl (rw h.found);
     })
 
 -- k of them are the first word, written k times

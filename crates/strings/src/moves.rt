@@ -82,6 +82,7 @@ impl Element {
     }
 
     // One element after another, each seeing the earlier stores.
+    #[tactic(auto, using(crate::proofs::Copying::copied_on), unfolding(crate::specs::Copies::copies))]
     fn copy_each(self, source: usize, target: usize, n: u16, memory: &mut [u16])
         requires { (source + n ≤ places_in self memory.old) × (target + n ≤ places_in self memory.old) }
         ensures { memory.new ≡ copies self source target n memory.old }
@@ -93,6 +94,7 @@ impl Element {
 }
 
 // Words to the places that lie one on: each is the first word, which is read once.
+#[tactic(auto, using(crate::proofs::Copying::filled_all))]
 fn fill_words(source: usize, n: u16, memory: &mut [u16])
     requires { source + 1 + n ≤ length memory.old }
     ensures { memory.new ≡ copies Element.Word source (source + 1) n memory.old }
@@ -115,6 +117,7 @@ fn copy_words(source: usize, target: usize, n: u16, memory: &mut [u16])
 
 // Bytes whose places are both even or both odd: the words between the first byte and the last are
 // copied whole.
+#[tactic(auto, using(crate::proofs::Alike::copies_alike))]
 fn copy_bytes(source: usize, target: usize, n: u16, memory: &mut [u16])
     requires { (source % 2 ≡ target % 2) × (source + n ≤ places_in Element.Byte memory.old) × (target + n ≤ places_in Element.Byte memory.old) }
     ensures { memory.new ≡ copies Element.Byte source target n memory.old }
@@ -157,6 +160,7 @@ struct Span {
 
 impl Span {
     // Whether an element lies in A or B.
+    #[tactic(auto, using(crate::proofs::Touching::touches_ends, crate::proofs::Touching::touches_data))]
     fn touches_registers(self) -> bool
         ensures { result ≡ touches self.element self.map self.at self.count }
     {
@@ -171,6 +175,7 @@ impl Span {
     }
 
     // The first trouble that a test of words meets, where the last word on each page tells of those before it.
+    #[tactic(auto, unfolding(crate::specs::Copies::first_trouble))]
     fn test_pages<F: Fn(u16) -> Result<(), Trouble>>(self, test: F) -> Result<(), Trouble>
         requires { F.IsAlwaysCallable test }
         ensures { (T : Test) → Answers T (F.post test) → ToldByPages T → result ≡ first_trouble T self.element self.at self.count }
@@ -248,6 +253,7 @@ impl Move {
 
     // After the tests: one element after another, upward, a stretch of them on one page of each range at a
     // time.
+    #[tactic(auto, using(crate::proofs::Ranges::ready), unfolding(crate::specs::Strings::moving))]
     fn copy(self, r: Registers, pages: &[u16], memory: &mut [u16])
         requires { exec pages.now (tested self (fin (λ t. t))) r memory.old ≡ done r memory.old }
         ensures { (k : Act) → exec pages.now (carrying self k) r memory.old ≡ exec pages.now k r memory.new }

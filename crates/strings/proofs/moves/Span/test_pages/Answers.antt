@@ -20,9 +20,3 @@ loop-left-preserved g c = (
       (sym (first_past T told _ _ _ _ c.loop-left.invariant.0 c.loop-left-test.true c.stretch-stretch.ensures c.along-last.ensures c.word_at.ensures (is _ _ c.word_at.type_inv c.test.ensures) c.in_ok-test.was)
       ∙ c.loop-left.invariant.1 T is told),
 )
-
-pub returns : goal.returns
-unfolding first_trouble
-returns g c = λ T is told.
-    let e : c.loop-left.left ≡ 0 = omega arith in
-    rw e at (c.loop-left.invariant.1 T is told)
