@@ -4,7 +4,7 @@
 --     copies_whole                               bytes from an even place on are words
 --     copies_alike                               the first byte, the words and the last byte are all of them
 -- Assumes nothing.
-use Rattle.std.proofs.Common.{◌≡◌, ℕ, zero, suc, ◌+◌, ◌-◌, ◌*◌, ◌/◌, ◌%◌, ◌<◌, ◌≤◌, Bool, true, false, eqb, ltb, min, List, length, get_or, set, sym, refl, ap, ◌∙◌, arith, get_or-set_other, get_or-set_same, set-set, ltb-false, ltb-true, eq-eqb, ne_eqb, eqb-true}
+use Rattle.std.proofs.Common.{◌≡◌, ℕ, zero, suc, ◌+◌, ◌-◌, ◌*◌, ◌/◌, ◌%◌, ◌<◌, Bool, true, false, eqb, ltb, min, List, length, get_or, set, sym, refl, ap, ◌∙◌, arith, get_or-set_other, get_or-set_same, set-set, ltb-false, ltb-true, eq-eqb, ne_eqb, eqb-true}
 use lib.Seq.{set_out}
 use borrow.Author.Tests.{eqb-false}
 use Rattle.maps.specs.Bytes.{is_low_byte}

@@ -1,11 +1,8 @@
 // MVW and MBT after their count was read: the tests of both ranges, then one element after another.
 ghost use Rattle.std.specs.Prelude.{◌≡◌, ℕ, ◌+◌, ◌%◌, ◌<◌, ◌≤◌, not, ◌&&◌, ◌||◌, List, length, ◌==◌, nat_lt};
-ghost use Rattle.maps.specs.Pages.{place};
-ghost use Rattle.maps.specs.declared.pages.Place.{Place as Where};
 ghost use Rattle.acts.specs.Acts.{Act, Performs, exec, fin, done, on_tested};
-ghost use Rattle.strings.specs.Copies.{Stretch, Test, Answers, ToldByPages, first_trouble, place_in, index_of, places_in, carried, copies};
+ghost use Rattle.strings.specs.Copies.{Stretch, Test, Answers, ToldByPages, first_trouble, InMemory, lead, place_in, index_of, places_in, carried, copies};
 ghost use Rattle.strings.specs.Strings.{word_at, purpose_of, touches, opens_all, present_all, tested, carrying, moved, past_ranges, move_act};
-ghost use Rattle.std.specs.Prelude.{Ok as Good};
 
 use crate::strings::{Element, count_at, is_none};
 use acts::record::Registers;
@@ -44,7 +41,7 @@ impl Element {
     }
 
     // The place in memory of an element that an access reaches.
-    #[tactic(auto, using(maps::proofs::Laws::place_below))]
+    #[tactic(auto, using(crate::proofs::Ranges::leads, maps::proofs::Laws::place_below))]
     fn place(
         self,
         map: Map,
@@ -54,14 +51,17 @@ impl Element {
         pages: &[u16],
         memory: &[u16],
     ) -> usize
-        ensures { (index : ℕ) → place pages.now r.wmap map purpose (word_at self at) (length memory.now) ≡ Good (Where.Memory index) → result ≡ place_in self index at }
+        requires { InMemory pages.now r.wmap (length memory.now) self map purpose at }
+        ensures { result ≡ place_in self (lead pages.now r.wmap map (word_at self at)) at }
     {
-        match place_of(pages, r.wmap, map, purpose, self.word_at(at), memory.len()) {
-            Ok(Place::Memory(index)) => match self {
-                Element::Word => index,
-                Element::Byte => index * 2 + (at % 2) as usize,
-            },
-            _ => 0,
+        let word = self.word_at(at);
+        let Ok(Place::Memory(index)) = place_of(pages, r.wmap, map, purpose, word, memory.len())
+        else {
+            unreachable!();
+        };
+        match self {
+            Element::Word => index,
+            Element::Byte => index * 2 + (at % 2) as usize,
         }
     }
 

@@ -166,7 +166,7 @@ fn conclude(order: Ordering, at: u16, end: u16, r: Registers) -> Registers
 }
 
 // One pair after another, to the first difference.
-#[tactic(auto, using(crate::proofs::Comparisons::went_on, crate::proofs::Comparisons::found, crate::proofs::Comparisons::stopped, crate::proofs::Comparisons::ended), unfolding(crate::specs::Strings::comparing))]
+#[tactic(auto, using(crate::proofs::Comparisons::went_on, crate::proofs::Comparisons::found, crate::proofs::Comparisons::ended), unfolding(crate::specs::Strings::comparing))]
 pub(crate) fn compare_strings(
     u: Element,
     count: u16,

@@ -1,7 +1,6 @@
 -- `Span::test_pages` meets its contract: the last word of a stretch tells the stretch. Assumes nothing.
-use Rattle.std.proofs.Common.{◌≡◌, sym, ◌∙◌, arith}
+use Rattle.std.proofs.Common.{sym, ◌∙◌}
 use Rattle.std.proofs.lemmas.Result.{err_from_is_err_and}
-use Rattle.strings.specs.Copies.{first_trouble}
 use Rattle.strings.proofs.Stretches.{along_fits, first_past}
 use Rattle.strings.proofs.moves.Span.test_pages.Goals as goal
 
