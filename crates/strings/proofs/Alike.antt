@@ -4,7 +4,7 @@
 --     copies_whole                               bytes from an even place on are words
 --     copies_alike                               the first byte, the words and the last byte are all of them
 -- Assumes nothing.
-use Rattle.std.proofs.Common.{◌≡◌, ℕ, zero, suc, ◌+◌, ◌-◌, ◌*◌, ◌/◌, ◌%◌, ◌<◌, ◌≤◌, Bool, true, false, eqb, ltb, List, length, get_or, set, sym, refl, ap, ◌∙◌, arith, get_or-set_other, get_or-set_same, set-set, ltb-false, ltb-true, eq-eqb, ne_eqb, eqb-true}
+use Rattle.std.proofs.Common.{◌≡◌, ℕ, zero, suc, ◌+◌, ◌-◌, ◌*◌, ◌/◌, ◌%◌, ◌<◌, Bool, true, false, eqb, ltb, min, List, length, get_or, set, sym, refl, ap, ◌∙◌, arith, get_or-set_other, get_or-set_same, set-set, ltb-false, ltb-true, eq-eqb, ne_eqb, eqb-true}
 use lib.Seq.{set_out}
 use borrow.Author.Tests.{eqb-false}
 use Rattle.maps.specs.Bytes.{is_low_byte}
@@ -90,10 +90,10 @@ copies_words i j (suc n) m p q =
     rw (e, f) at (sym (copies_whole (i / 2) (j / 2) (suc n) m))
 
 -- t bytes first, which come to an even place where two or more are left
-module _ (i j n t : ℕ) (m : List ℕ) (alike : i % 2 ≡ j % 2) (head : (t ≤ i % 2) × (t ≤ n) × (0 < i % 2 → 0 < n → 0 < t)) where
+module _ (i j n t : ℕ) (m : List ℕ) (alike : i % 2 ≡ j % 2) (head : t ≡ min n (i % 2)) where
   come : (s : Bool) → eqb (i % 2) 0 ≡ s → 0 < (n - t) / 2 → t ≡ i % 2
-  come true e l = let z = eqb-true (i % 2) 0 e in omega (arith, head.0)
-  come false e l = let z = eqb-false (i % 2) 0 e in omega (arith, head.0, head.2 (omega arith) (omega arith))
+  come true e l = let z = eqb-true (i % 2) 0 e in omega (arith, head)
+  come false e l = let z = eqb-false (i % 2) 0 e in omega (arith, head)
 
   pub copies_alike : {m₁ m₂ m₃ : List ℕ} → m₁ ≡ copies Byte i j t m
       → m₂ ≡ copies Word ((i + t) / 2) ((j + t) / 2) ((n - t) / 2) m₁
@@ -101,7 +101,7 @@ module _ (i j n t : ℕ) (m : List ℕ) (alike : i % 2 ≡ j % 2) (head : (t ≤
       → m₃ ≡ copies Byte i j n m
   copies_alike e f g =
       let w = (n - t) / 2 in
-      let o : t + (w * 2 + (n - t) % 2) ≡ n = omega (arith, head.1) in
+      let o : t + (w * 2 + (n - t) % 2) ≡ n = omega (arith, head) in
       let p = copies_words (i + t) (j + t) w (copies Byte i j t m) (λ l. omega (arith, come _ refl l)) (λ l. omega (arith, alike, come _ refl l)) in
       rw (g, f, e, p)
       (sym (copies_sum Byte (i + t) (j + t) (w * 2) ((n - t) % 2) (copies Byte i j t m))

@@ -1,8 +1,9 @@
 -- A move after its tests: a stretch of elements copied by their places in memory.
 --     Copied, copied_inside, copied_fits, copied_on    how far the copy of a stretch has come; its next element, and one element on
 --     Filled, filled, filled_all           how far a copy of words to the places one on has come: they are all the first word
---     Placed, told, placed_on              the place of an element, and of the next on its page
---     Moves, moves_inside, moves_stretch       how far a move has come; a stretch of it in memory; a stretch on
+--     Placed, placed_on                    the place of an element, and of the next on its page
+--     Moves, moves_source, moves_target    how far a move has come; its next elements are in memory
+--     moves_inside, moves_stretch          a stretch of it in memory; a stretch on
 -- Assumes nothing.
 use Rattle.std.proofs.Common.{◌≡◌, ℕ, zero, suc, ◌+◌, ◌-◌, ◌*◌, ◌/◌, ◌%◌, ◌<◌, ◌≤◌, List, [], length, get_or, set, replicate, refl, sym, ap, ◌∙◌, arith, length-set, get_or-set_same}
 use lib.Seq.{paste}
@@ -10,20 +11,18 @@ use borrow.Rule.Slice.PartMut.{put_mid}
 use Rattle.std.proofs.lemmas.List.{length-replicate}
 use Rattle.std.proofs.lemmas.List.Edits.{paste_none, fill_from_more}
 use Rattle.std.proofs.lemmas.Slice.{put_mid-paste}
-use Rattle.maps.specs.Pages.{physical_page, page_register, register_of, index_in, place}
+use Rattle.maps.specs.Pages.{physical_page, page_register, register_of, index_in}
 use Rattle.maps.proofs.Laws.{place_below}
 use Rattle.maps.specs.declared.pages.Map.{Map}
 use Rattle.maps.specs.declared.pages.Purpose.{Purpose}
-use Rattle.maps.specs.declared.pages.Place.{Place}
 use Rattle.acts.specs.Acts.{Act, exec}
 use Rattle.strings.specs.Strings.{word_at, along, purpose_of, moving}
-use Rattle.strings.specs.Copies.{per_page, place_in, index_of, places_in, Stretch, carried, copies}
+use Rattle.strings.specs.Copies.{per_page, InMemory, lead, place_in, index_of, places_in, Stretch, carried, copies}
 use Rattle.acts.specs.declared.record.Registers.{Registers}
 use Rattle.strings.specs.declared.strings.Element.{Element}
 use Rattle.strings.specs.declared.strings.Element.TheVariants.{Word, Byte}
-use Rattle.strings.proofs.Ranges.{Reaches, reaches_on, lead, leads, move_one}
+use Rattle.strings.proofs.Ranges.{Reaches, reaches_on, leads, move_one}
 use Rattle.strings.proofs.Stretches.{along_on, page_on}
-use Rattle.std.specs.Prelude.{Ok}
 
 carried_length : (u : Element) (i j : ℕ) (m : List ℕ) → length (carried u i j m) ≡ length m
 carried_length Word i j m = length-set m j _
@@ -60,10 +59,11 @@ module _ (u : Element) (i j n : ℕ) (m : List ℕ) (i' j' n' : ℕ) (m' : List 
   pub copied_fits : (i' + 1 ≤ length m * 2) × (j' + 1 ≤ length m * 2)
   copied_fits = (omega (arith, h.first, places_fit u m', h.lengths), omega (arith, h.second, places_fit u m', h.lengths))
 
-  pub copied_on : {m'' : List ℕ} → m'' ≡ carried u i' j' m' → Copied u i j n m (i' + 1) (j' + 1) (n' - 1) m''
-  copied_on e =
+  pub copied_on : {i'' j'' n'' : ℕ} {m'' : List ℕ} → i'' ≡ i' + 1 → j'' ≡ j' + 1 → n'' ≡ n' - 1 → m'' ≡ carried u i' j' m'
+      → Copied u i j n m i'' j'' n'' m''
+  copied_on x y z e =
       let p = carried_places u i' j' m' in
-      rw e
+      rw (x, y, z, e)
       (record {
         lengths = carried_length u i' j' m' ∙ h.lengths;
         first = omega (arith, h.first);
@@ -91,12 +91,11 @@ filled_on : (i n : ℕ) (m : List ℕ) (v j n' : ℕ) (m' : List ℕ) {j' n'' : 
     → j' ≡ j + 1 → n'' ≡ n' - 1 → m'' ≡ set m' j v → Filled i n m v j' n'' m''
 filled_on i n m v j n' m' some h x y z =
     let a : j + 1 - 1 ≡ j = omega arith in
-    let b : j - 1 + 1 ≡ j = omega (arith, h.past) in
     rw (x, y, z)
     (record {
       past = omega arith;
       found = rw a (get_or-set_same m' j v 0 (omega (arith, h.copied.second)));
-      copied = rw a (rw b at (copied_on Word i (i + 1) n m (j - 1) j n' m' some h.copied {m'' = set m' j v} (rw h.found)));
+      copied = copied_on Word i (i + 1) n m (j - 1) j n' m' some h.copied (omega (arith, h.past)) refl refl (rw h.found);
     })
 
 -- k of them are the first word, written k times
@@ -151,16 +150,6 @@ module _ (pages : List ℕ) (r : Registers) where
       let g = page_on u at 1 (omega arith) in
       omega (arith, inside u map purpose (along u at 1) t (n - 1) m (omega arith) (omega (arith, g.next)) (reaches_on pages r.wmap (length m) u map purpose at n (omega arith) h).1 (placed_on u map at (omega arith) e))
 
-  -- what an element's place is told to be
-  abbrev pub Told : Element → Map → Purpose → ℕ → List ℕ → ℕ → Type 0
-  Told u map purpose at m i =
-      (index : ℕ) → place pages r.wmap map purpose (word_at u at) (length m) ≡ Ok (Place.Memory index) → i ≡ place_in u index at
-
-  told : (u : Element) (map : Map) (purpose : Purpose) (at n : ℕ) (m : List ℕ) {i : ℕ} → 0 < n
-      → Reaches pages r.wmap (length m) u map purpose at n → Told u map purpose at m i → Placed u map at i
-  told u map purpose at n m l h t =
-      t _ (leads pages r.wmap (length m) u map purpose at (reaches_on pages r.wmap (length m) u map purpose at n l h).0)
-
   module _ (u : Element) (from to : Map) (s d n : ℕ) (m : List ℕ) where
     -- a move of n elements has left n' of them to move in a memory m'
     pub record Moves (s' d' n' : ℕ) (m' : List ℕ) : Type 0 where
@@ -196,24 +185,26 @@ module _ (pages : List ℕ) (r : Registers) where
         (stretch (along u s' 1) (along u d' 1) t (n' - 1) (carried u i j m') (omega arith) (omega (arith, g.next)) (omega (arith, g'.next))
         (moves_on s' d' n' m' (omega arith) h e f) (placed_on u from s' (omega arith) e) (placed_on u to d' (omega arith) f))
 
-  -- a stretch on one page of the second range, of a stretch on one page of the first
-  pub moves_inside : (u : Element) (from to : Map) (s d n : ℕ) (m : List ℕ) (s' d' t o n' : ℕ) (m' : List ℕ) {i j : ℕ} → 0 < n'
-      → Stretch u s' n' o → Stretch u d' o t → Moves u from to s d n m s' d' n' m'
-      → Told u from Purpose.Read s' m' i → Told u to (purpose_of u) d' m' j
-      → (i + t ≤ places_in u m') × (j + t ≤ places_in u m')
-  moves_inside u from to s d n m s' d' zero o n' m' l a b h e f = absurd (omega (arith, b.some (a.some l)))
-  moves_inside u from to s d n m s' d' (suc t) o n' m' l a b h e f = (
-    inside u from Purpose.Read s' t n' m' (omega (arith, a.within, b.within)) (omega (arith, a.page, b.within)) h.source (told u from Purpose.Read s' n' m' l h.source e),
-    inside u to (purpose_of u) d' t n' m' (omega (arith, a.within, b.within)) b.page h.target (told u to (purpose_of u) d' n' m' l h.target f),
-  )
+  module _ {u : Element} {from to : Map} {s d n : ℕ} {m : List ℕ} {s' d' n' : ℕ} {m' : List ℕ} (some : 0 < n') (h : Moves u from to s d n m s' d' n' m') where
+    pub moves_source : InMemory pages r.wmap (length m') u from Purpose.Read s'
+    moves_source = (reaches_on pages r.wmap (length m') u from Purpose.Read s' n' some h.source).0
 
-  pub moves_stretch : (u : Element) (from to : Map) (s d n : ℕ) (m : List ℕ) (s' d' t o n' : ℕ) (m' : List ℕ) {i j s'' d'' : ℕ} {m'' : List ℕ} → 0 < n'
-      → Stretch u s' n' o → Stretch u d' o t → Moves u from to s d n m s' d' n' m'
-      → Told u from Purpose.Read s' m' i → Told u to (purpose_of u) d' m' j
-      → m'' ≡ copies u i j t m' → s'' ≡ along u s' t → d'' ≡ along u d' t
-      → Moves u from to s d n m s'' d'' (n' - t) m''
-  moves_stretch u from to s d n m s' d' zero o n' m' l a b h e f x y z = absurd (omega (arith, b.some (a.some l)))
-  moves_stretch u from to s d n m s' d' (suc t) o n' m' l a b h e f x y z =
-      rw (x, y, z)
-      (stretch u from to s d n m s' d' t n' m' (omega (arith, a.within, b.within)) (omega (arith, a.page, b.within)) b.page h
-      (told u from Purpose.Read s' n' m' l h.source e) (told u to (purpose_of u) d' n' m' l h.target f))
+    pub moves_target : {q : Purpose} → q ≡ purpose_of u → InMemory pages r.wmap (length m') u to q d'
+    moves_target e = rw e (reaches_on pages r.wmap (length m') u to (purpose_of u) d' n' some h.target).0
+
+    -- a stretch on one page of the second range, of a stretch on one page of the first
+    pub moves_inside : (t o : ℕ) {i j : ℕ} → Stretch u s' n' o → Stretch u d' o t → Placed u from s' i → Placed u to d' j
+        → (i + t ≤ places_in u m') × (j + t ≤ places_in u m')
+    moves_inside zero o a b e f = absurd (omega (arith, b.some (a.some some)))
+    moves_inside (suc t) o a b e f = (
+      inside u from Purpose.Read s' t n' m' (omega (arith, a.within, b.within)) (omega (arith, a.page, b.within)) h.source e,
+      inside u to (purpose_of u) d' t n' m' (omega (arith, a.within, b.within)) b.page h.target f,
+    )
+
+    pub moves_stretch : (t o : ℕ) {i j s'' d'' : ℕ} {m'' : List ℕ} → Stretch u s' n' o → Stretch u d' o t → Placed u from s' i → Placed u to d' j
+        → m'' ≡ copies u i j t m' → s'' ≡ along u s' t → d'' ≡ along u d' t
+        → Moves u from to s d n m s'' d'' (n' - t) m''
+    moves_stretch zero o a b e f x y z = absurd (omega (arith, b.some (a.some some)))
+    moves_stretch (suc t) o a b e f x y z =
+        rw (x, y, z)
+        (stretch u from to s d n m s' d' t n' m' (omega (arith, a.within, b.within)) (omega (arith, a.page, b.within)) b.page h e f)

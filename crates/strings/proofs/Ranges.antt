@@ -1,11 +1,11 @@
 -- Ranges of words and bytes: what the tests of a move tell of each element, and what moving one does.
 --     open_goes, present_goes     a test that is passed
---     InMemory, Reaches           an element, and each of a range, is a word of memory that an access reaches
+--     Reaches                     each element of a range is one that an access reaches
 --     reaches, ready              they are, where the tests of the range, and of a move, succeed
---     lead, move_one              the word that an access reaches; one element moved
+--     leads, move_one             the place of an element that an access reaches; one element moved
 -- Assumes nothing.
 use Rattle.std.proofs.Common.{◌≡◌, ℕ, zero, suc, ◌+◌, ◌-◌, ◌*◌, ◌/◌, ◌%◌, ◌<◌, Bool, true, false, cond, ◌&&◌, ◌||◌, List, length, sym, refl, ap, ◌∙◌, arith}
-use Rattle.maps.specs.Pages.{register_of, index_in, is_register, is_open, presence, spot, place}
+use Rattle.maps.specs.Pages.{is_register, is_open, presence, spot, place}
 use Rattle.maps.specs.Access.{fetched}
 use Rattle.maps.proofs.Laws.{place_reached, open_both}
 use Rattle.maps.specs.declared.pages.Map.{Map}
@@ -14,7 +14,7 @@ use Rattle.maps.specs.declared.pages.Place.{Place}
 use Rattle.maps.specs.declared.troubles.Trouble.{Trouble}
 use Rattle.acts.specs.Acts.{Act, Outcome, fin, stop, done, on_open, on_tested, exec}
 use Rattle.strings.specs.Strings.{word_at, along, purpose_of, touches, opens_all, present_all, moving, all_open, all_present, tested}
-use Rattle.strings.specs.Copies.{place_in, carried}
+use Rattle.strings.specs.Copies.{InMemory, lead, place_in, carried}
 use Rattle.acts.specs.declared.record.Registers.{Registers}
 use Rattle.acts.specs.declared.replies.Refusal.{Refusal}
 use Rattle.strings.specs.declared.moves.Move.{Move}
@@ -45,15 +45,10 @@ present_goes (Err (Trouble.Absent page)) x e = never (cc)
 present_goes (Err Trouble.Endless) x e = never (cc)
 present_goes (Err Trouble.InRegisters) x e = never (cc)
 
-module _ (pages : List ℕ) (wmap size : ℕ) (u : Element) (map : Map) (purpose : Purpose) where
-  pub record InMemory (at : ℕ) : Type 0 where
-    pub memory : is_register map (word_at u at) ≡ false
-    pub allowed : is_open pages wmap map purpose (word_at u at) ≡ true
-    pub there : presence pages wmap map (word_at u at) size ≡ Ok tt
-
-  unfoldable pub Reaches : ℕ → ℕ → Type 0
-  Reaches at zero = Unit
-  Reaches at (suc n) = InMemory at × Reaches (along u at 1) n
+-- each element of a range is one that an access reaches
+unfoldable pub Reaches : List ℕ → ℕ → ℕ → Element → Map → Purpose → ℕ → ℕ → Type 0
+Reaches pages wmap size u map purpose at zero = Unit
+Reaches pages wmap size u map purpose at (suc n) = InMemory pages wmap size u map purpose at × Reaches pages wmap size u map purpose (along u at 1) n
 
 -- the first element of a range, and the others
 pub touches_here : (u : Element) (map : Map) (at n : ℕ) → 0 < n → is_register map (word_at u at) ≡ true → touches u map at n ≡ true
@@ -73,10 +68,6 @@ pub reaches_on : (pages : List ℕ) (wmap size : ℕ) (u : Element) (map : Map) 
 unfolding Reaches
 reaches_on pages wmap size u map purpose at zero l h = absurd (omega arith)
 reaches_on pages wmap size u map purpose at (suc n) l h = let f : n ≡ suc n - 1 = omega arith in (h.0, rw f at h.1)
-
--- the index that an address leads to
-abbrev pub lead : List ℕ → ℕ → Map → ℕ → ℕ
-lead pages wmap map at = index_in (register_of pages wmap map at) at
 
 module _ (pages : List ℕ) where
   spot_memory : (wmap : ℕ) (map : Map) (at : ℕ) → is_register map at ≡ false → spot pages wmap map at ≡ Place.Memory (lead pages wmap map at)

@@ -4,12 +4,16 @@
 --     per_page, Stretch                the elements of a page; a stretch of elements on one page
 --     Test, Answers                    a test of words, and what a function answers that makes it
 --     first_trouble, ToldByPages       the first trouble that it meets in a range; a test that the last word on a page tells
+--     InMemory, lead                   an element that an access reaches; the word there
 --     place_in, index_of, places_in    places: of an address, a word, a memory
 --     carried, copies                  one element copied; several, one after another
 -- Assumes nothing.
-use Rattle.std.specs.Prelude.{◌≡◌, ◌⊎◌, ℕ, zero, suc, ◌+◌, ◌*◌, ◌/◌, ◌%◌, ◌<◌, ◌≤◌, List, length, slice_index, slice_set, Result, Ok, Err}
+use Rattle.std.specs.Prelude.{◌≡◌, ◌⊎◌, ℕ, zero, suc, ◌+◌, ◌*◌, ◌/◌, ◌%◌, ◌<◌, ◌≤◌, true, false, List, length, slice_index, slice_set, Result, Ok, Err}
 use Rattle.word.specs.Words.{byte_of, with_byte}
+use Rattle.maps.specs.Pages.{register_of, index_in, is_register, is_open, presence}
 use Rattle.maps.specs.Bytes.{is_low_byte}
+use Rattle.maps.specs.declared.pages.Map.{Map}
+use Rattle.maps.specs.declared.pages.Purpose.{Purpose}
 use Rattle.maps.specs.declared.troubles.Trouble.{Trouble}
 use Rattle.strings.specs.Strings.{word_at, along}
 use Rattle.strings.specs.declared.strings.Element.{Element}
@@ -44,6 +48,16 @@ first_trouble test u at (suc n) = met_first (test (word_at u at)) (first_trouble
 -- on a page, a word passes a test, or meets the trouble that each later word there meets
 pub record ToldByPages (test : Test) : Type 0 where
   pub told : (x y : ℕ) → x / 1024 % 32 ≡ y / 1024 % 32 → x % 1024 ≤ y % 1024 → (test x ≡ Ok tt) ⊎ (test x ≡ test y)
+
+-- an element that an access reaches, and that is no register
+pub record InMemory (pages : List ℕ) (wmap size : ℕ) (u : Element) (map : Map) (purpose : Purpose) (at : ℕ) : Type 0 where
+  pub memory : is_register map (word_at u at) ≡ false
+  pub allowed : is_open pages wmap map purpose (word_at u at) ≡ true
+  pub there : presence pages wmap map (word_at u at) size ≡ Ok tt
+
+-- the index of the word that an address leads to
+abbrev pub lead : List ℕ → ℕ → Map → ℕ → ℕ
+lead pages wmap map at = index_in (register_of pages wmap map at) at
 
 -- the place of an element at an address, whose word has an index
 abbrev pub place_in : Element → ℕ → ℕ → ℕ

@@ -1,11 +1,8 @@
 // MVW and MBT after their count was read: the tests of both ranges, then one element after another.
 ghost use Rattle.std.specs.Prelude.{◌≡◌, ℕ, ◌+◌, ◌%◌, ◌<◌, ◌≤◌, not, ◌&&◌, ◌||◌, List, length, ◌==◌, nat_lt};
-ghost use Rattle.maps.specs.Pages.{place};
-ghost use Rattle.maps.specs.declared.pages.Place.{Place as Where};
 ghost use Rattle.acts.specs.Acts.{Act, Performs, exec, fin, done, on_tested};
-ghost use Rattle.strings.specs.Copies.{Stretch, Test, Answers, ToldByPages, first_trouble, place_in, index_of, places_in, carried, copies};
+ghost use Rattle.strings.specs.Copies.{Stretch, Test, Answers, ToldByPages, first_trouble, InMemory, lead, place_in, index_of, places_in, carried, copies};
 ghost use Rattle.strings.specs.Strings.{word_at, purpose_of, touches, opens_all, present_all, tested, carrying, moved, past_ranges, move_act};
-ghost use Rattle.std.specs.Prelude.{Ok as Good};
 
 use crate::strings::{Element, count_at, is_none};
 use acts::record::Registers;
@@ -44,7 +41,7 @@ impl Element {
     }
 
     // The place in memory of an element that an access reaches.
-    #[tactic(auto, using(maps::proofs::Laws::place_below))]
+    #[tactic(auto, using(crate::proofs::Ranges::leads, maps::proofs::Laws::place_below))]
     fn place(
         self,
         map: Map,
@@ -54,18 +51,20 @@ impl Element {
         pages: &[u16],
         memory: &[u16],
     ) -> usize
-        ensures { (index : ℕ) → place pages.now r.wmap map purpose (word_at self at) (length memory.now) ≡ Good (Where.Memory index) → result ≡ place_in self index at }
+        requires { InMemory pages.now r.wmap (length memory.now) self map purpose at }
+        ensures { result ≡ place_in self (lead pages.now r.wmap map (word_at self at)) at }
     {
         let maps = Maps {
             pages,
             wmap: r.wmap,
         };
-        match maps.place(map, purpose, self.word_at(at), memory.len()) {
-            Ok(Place::Memory(index)) => match self {
-                Element::Word => index,
-                Element::Byte => index * 2 + (at % 2) as usize,
-            },
-            _ => 0,
+        let word = self.word_at(at);
+        let Ok(Place::Memory(index)) = maps.place(map, purpose, word, memory.len()) else {
+            unreachable!();
+        };
+        match self {
+            Element::Word => index,
+            Element::Byte => index * 2 + (at % 2) as usize,
         }
     }
 
@@ -86,6 +85,7 @@ impl Element {
     }
 
     // One element after another, each seeing the earlier stores.
+    #[tactic(auto, using(crate::proofs::Copying::copied_on), unfolding(crate::specs::Copies::copies))]
     fn copy_each(self, source: usize, target: usize, n: u16, memory: &mut [u16])
         requires { (source + n ≤ places_in self memory.old) × (target + n ≤ places_in self memory.old) }
         ensures { memory.new ≡ copies self source target n memory.old }
@@ -97,6 +97,7 @@ impl Element {
 }
 
 // Words to the places that lie one on: each is the first word, which is read once.
+#[tactic(auto, using(crate::proofs::Copying::filled_all))]
 fn fill_words(source: usize, n: u16, memory: &mut [u16])
     requires { source + 1 + n ≤ length memory.old }
     ensures { memory.new ≡ copies Element.Word source (source + 1) n memory.old }
@@ -119,6 +120,7 @@ fn copy_words(source: usize, target: usize, n: u16, memory: &mut [u16])
 
 // Bytes whose places are both even or both odd: the words between the first byte and the last are
 // copied whole.
+#[tactic(auto, using(crate::proofs::Alike::copies_alike))]
 fn copy_bytes(source: usize, target: usize, n: u16, memory: &mut [u16])
     requires { (source % 2 ≡ target % 2) × (source + n ≤ places_in Element.Byte memory.old) × (target + n ≤ places_in Element.Byte memory.old) }
     ensures { memory.new ≡ copies Element.Byte source target n memory.old }
@@ -161,6 +163,7 @@ struct Span {
 
 impl Span {
     // Whether an element lies in A or B.
+    #[tactic(auto, using(crate::proofs::Touching::touches_ends, crate::proofs::Touching::touches_data))]
     fn touches_registers(self) -> bool
         ensures { result ≡ touches self.element self.map self.at self.count }
     {
@@ -175,6 +178,7 @@ impl Span {
     }
 
     // The first trouble that a test of words meets, where the last word on each page tells of those before it.
+    #[tactic(auto, unfolding(crate::specs::Copies::first_trouble))]
     fn test_pages<F: Fn(u16) -> Result<(), Trouble>>(self, test: F) -> Result<(), Trouble>
         requires { F.IsAlwaysCallable test }
         ensures { (T : Test) → Answers T (F.post test) → ToldByPages T → result ≡ first_trouble T self.element self.at self.count }
@@ -262,6 +266,7 @@ impl Move {
 
     // After the tests: one element after another, upward, a stretch of them on one page of each range at a
     // time.
+    #[tactic(auto, using(crate::proofs::Ranges::ready), unfolding(crate::specs::Strings::moving))]
     fn copy(self, r: Registers, pages: &[u16], memory: &mut [u16])
         requires { exec pages.now (tested self (fin (λ t. t))) r memory.old ≡ done r memory.old }
         ensures { (k : Act) → exec pages.now (carrying self k) r memory.old ≡ exec pages.now k r memory.new }
@@ -309,6 +314,7 @@ impl Move {
 }
 
 // MVW and MBT.
+#[tactic(auto, using(crate::proofs::Comparisons::ended))]
 pub fn move_string(
     u: Element,
     r: Registers,

@@ -55,6 +55,7 @@ impl Element {
     }
 
     // The word that holds an element, which may not be A or B.
+    #[tactic(auto, unfolding(acts::specs::Acts::exec))]
     pub(crate) fn load(
         self,
         at: u16,
@@ -162,6 +163,7 @@ fn conclude(order: Ordering, at: u16, end: u16, r: Registers) -> Registers
 }
 
 // One pair after another, to the first difference.
+#[tactic(auto, using(crate::proofs::Comparisons::went_on, crate::proofs::Comparisons::found, crate::proofs::Comparisons::ended), unfolding(crate::specs::Strings::comparing))]
 pub(crate) fn compare_strings(
     u: Element,
     count: u16,
@@ -190,6 +192,7 @@ pub(crate) fn compare_strings(
 }
 
 // CMW and CBT
+#[tactic(auto, using(crate::proofs::Comparisons::ended))]
 pub fn compare(u: Element, r: Registers, pages: &[u16], memory: &[u16]) -> Result<Registers, Stop>
     ensures { Performs pages.now (compare_act u r) r memory.now result memory.now }
 {

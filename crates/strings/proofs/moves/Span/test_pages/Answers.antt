@@ -1,7 +1,6 @@
 -- `Span::test_pages` meets its contract: the last word of a stretch tells the stretch. Assumes nothing.
-use Rattle.std.proofs.Common.{◌≡◌, sym, ◌∙◌, arith}
+use Rattle.std.proofs.Common.{sym, ◌∙◌}
 use Rattle.std.proofs.lemmas.Result.{err_from_is_err_and}
-use Rattle.strings.specs.Copies.{first_trouble}
 use Rattle.strings.proofs.Stretches.{along_fits, first_past}
 use Rattle.strings.proofs.moves.Span.test_pages.Goals as goal
 
@@ -20,9 +19,3 @@ loop-left-preserved g c = (
       (sym (first_past T told _ _ _ _ c.loop-left.invariant.0 c.loop-left-test.true c.stretch-stretch.ensures c.along-last.ensures c.word_at.ensures (is _ _ c.word_at.type_inv c.test.ensures) c.in_ok-test.was)
       ∙ c.loop-left.invariant.1 T is told),
 )
-
-pub returns : goal.returns
-unfolding first_trouble
-returns g c = λ T is told.
-    let e : c.loop-left.left ≡ 0 = omega arith in
-    rw e at (c.loop-left.invariant.1 T is told)

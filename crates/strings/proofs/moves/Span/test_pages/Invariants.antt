@@ -1,5 +1,4 @@
-use Rattle.std.proofs.Common.{◌≡◌, ℕ, ◌<◌, Result}
-use Rattle.maps.specs.declared.troubles.Trouble.{Trouble}
+use Rattle.std.proofs.Common.{◌≡◌, ◌<◌}
 use Rattle.strings.specs.Copies.{Test, Answers, ToldByPages, first_trouble}
 use Rattle.strings.proofs.moves.Span.test_pages.Given as goal
 
