@@ -4,7 +4,7 @@ ghost use Rattle.rules.specs.Rules.{step_act};
 ghost use Rattle.lane.specs.Lane.{Tried, carried, Rolls};
 
 use crate::codes::extend;
-use crate::group::{alter_a, alter_b, shift_a, shift_b};
+use crate::group::{alter, shift};
 use crate::references::{put, reach, step_and_skip, take};
 use acts::record::Registers;
 use code::codes::Register;
@@ -19,16 +19,16 @@ fn carry(word: u16, at: u16, r: Registers, pages: &[u16], memory: &mut [u16]) ->
     match word / 0o4000 % 16 {
         0 => {
             if word / 0o2000 % 2 == 1 {
-                Some(alter_a(word, r))
+                Some(alter(Register::A, word, r))
             } else {
-                Some(shift_a(word, r))
+                Some(shift(Register::A, word, r))
             }
         }
         1 => {
             if word / 0o2000 % 2 == 1 {
-                Some(alter_b(word, r))
+                Some(alter(Register::B, word, r))
             } else {
-                Some(shift_b(word, r))
+                Some(shift(Register::B, word, r))
             }
         }
         2 => take(Taking::And, at, r, pages, memory),

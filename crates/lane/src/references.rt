@@ -72,7 +72,7 @@ pub(crate) fn take(
 }
 
 // A word is stored in memory. One that goes to A or B is left.
-pub(crate) fn store(value: u16, at: u16, wmap: u16, pages: &[u16], memory: &mut [u16]) -> Option<()>
+fn store(value: u16, at: u16, wmap: u16, pages: &[u16], memory: &mut [u16]) -> Option<()>
     ensures { Keeps pages.now wmap at value memory.old result memory.new }
 {
     let length = memory.len();

@@ -15,19 +15,19 @@ fifteen n l m = omega arith
 
 pub returns-then-word-eq1 : goal.returns-then-word-eq1
 unfolding carried alter_skip
-returns-then-word-eq1 c = rw (c.in-0.is, eq-eqb _ _ c.if-word-eq1.true) (finished c.args.pages.now c.args.memory.now c.args.r (alter_skipped _) c.args.memory.now c.alter_a.ensures)
+returns-then-word-eq1 c = rw (c.in-0.is, eq-eqb _ _ c.if-word-eq1.true) (finished c.args.pages.now c.args.memory.now c.args.r (alter_skipped _) c.args.memory.now c.alter.ensures)
 
 pub returns-else-word-eq1 : goal.returns-else-word-eq1
 unfolding carried shift_rotate
-returns-else-word-eq1 c = rw (c.in-0.is, ne_eqb _ _ c.if-word-eq1.false) (finished c.args.pages.now c.args.memory.now c.args.r (shift_rotated _) c.args.memory.now c.shift_a.ensures)
+returns-else-word-eq1 c = rw (c.in-0.is, ne_eqb _ _ c.if-word-eq1.false) (finished c.args.pages.now c.args.memory.now c.args.r (shift_rotated _) c.args.memory.now c.shift.ensures)
 
 pub returns-then-word-eq1-2 : goal.returns-then-word-eq1-2
 unfolding carried alter_skip
-returns-then-word-eq1-2 c = rw (c.in-1.is, eq-eqb _ _ c.if-word-eq1-2.true) (finished c.args.pages.now c.args.memory.now c.args.r (alter_skipped _) c.args.memory.now c.alter_b.ensures)
+returns-then-word-eq1-2 c = rw (c.in-1.is, eq-eqb _ _ c.if-word-eq1-2.true) (finished c.args.pages.now c.args.memory.now c.args.r (alter_skipped _) c.args.memory.now c.alter-then-word-eq1-2.ensures)
 
 pub returns-else-word-eq1-2 : goal.returns-else-word-eq1-2
 unfolding carried shift_rotate
-returns-else-word-eq1-2 c = rw (c.in-1.is, ne_eqb _ _ c.if-word-eq1-2.false) (finished c.args.pages.now c.args.memory.now c.args.r (shift_rotated _) c.args.memory.now c.shift_b.ensures)
+returns-else-word-eq1-2 c = rw (c.in-1.is, ne_eqb _ _ c.if-word-eq1-2.false) (finished c.args.pages.now c.args.memory.now c.args.r (shift_rotated _) c.args.memory.now c.shift-else-word-eq1-2.ensures)
 
 pub returns-in-2 : goal.returns-in-2
 unfolding carried
