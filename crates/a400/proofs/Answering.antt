@@ -10,15 +10,15 @@ use Rattle.machine.specs.Step.{Runs}
 use Rattle.machine.proofs.Running.{ran_one}
 use Rattle.acts.specs.declared.record.Registers.{Registers}
 use Rattle.acts.specs.declared.replies.Ran.{Ran}
-use Rattle.acts.specs.declared.record.Taken.{Taken}
-use Rattle.acts.specs.declared.record.Taken.TheVariants.{Record, NoRecord}
+use Rattle.std.specs.Prelude.{Option}
+use Rattle.std.specs.Prelude.{Some, None}
 use Rattle.acts.specs.Record.{words_of, registers_of}
 use Rattle.a400.specs.Calls.{step_call, run_call, RunCalls}
 use Rattle.a400.proofs.Records.{one_number}
 
 module _ (w pages m : List ℕ) (budget : ℕ) where
   pub run_called : {r : Registers} {s : Ran} {words later n : List ℕ} {k : ℕ}
-      → registers_of w ≡ Record r → Runs pages budget r m s later n → words ≡ words_of s.registers → k ≡ number s.reply
+      → registers_of w ≡ Some r → Runs pages budget r m s later n → words ≡ words_of s.registers → k ≡ number s.reply
       → RunCalls (run_call w pages m budget (0 ∷ [])) pages k words later n (s.count ∷ [])
   unfolding run_call
   run_called t h e f =
@@ -32,7 +32,7 @@ module _ (w pages m : List ℕ) (budget : ℕ) where
         count = ap (λ (s : Ran). s.count ∷ []) h.goes.outcome;
       })
 
-  pub run_refused : registers_of w ≡ NoRecord → RunCalls (run_call w pages m budget (0 ∷ [])) pages 8 w pages m (0 ∷ [])
+  pub run_refused : registers_of w ≡ None → RunCalls (run_call w pages m budget (0 ∷ [])) pages 8 w pages m (0 ∷ [])
   unfolding run_call
   run_refused t =
       rw (t, run_call) (record { calls = record { outcome = refl; words = refl; registers = refl; memory = refl }; count = refl })
@@ -54,6 +54,6 @@ pub step_as_run : (w pages m : List ℕ) → step_call w pages m ≡ (run_call w
 unfolding step_call run_call
 step_as_run w pages m = go (registers_of w) refl
   where
-    go : (t : Taken) → registers_of w ≡ t → step_call w pages m ≡ (run_call w pages m 1 (0 ∷ [])).call
-    go (Record r) e = rw (e, step_call, run_call, ran_one pages r m)
-    go NoRecord e = rw (e, step_call, run_call)
+    go : (t : Option Registers) → registers_of w ≡ t → step_call w pages m ≡ (run_call w pages m 1 (0 ∷ [])).call
+    go (Some r) e = rw (e, step_call, run_call, ran_one pages r m)
+    go None e = rw (e, step_call, run_call)

@@ -11,8 +11,8 @@ use Rattle.acts.specs.Replies.{number}
 use Rattle.acts.specs.Acts.{Outcome, done, violated, refused, bad_call, answer, left}
 use Rattle.machine.specs.Step.{stepped}
 use Rattle.acts.specs.declared.record.Registers.{Registers}
-use Rattle.acts.specs.declared.record.Taken.{Taken}
-use Rattle.acts.specs.declared.record.Taken.TheVariants.{Record, NoRecord}
+use Rattle.std.specs.Prelude.{Option}
+use Rattle.std.specs.Prelude.{Some, None}
 use Rattle.acts.specs.Record.{words_of, registers_of}
 use Rattle.acts.proofs.Words.{words_again}
 use Rattle.a400.specs.Calls.{step_call}
@@ -34,7 +34,7 @@ module _ (w pages m : List ℕ) where
   unfolding step_call
   refusal_kept = go (registers_of w) refl
     where
-      go : (t : Taken) → registers_of w ≡ t → 2 ≤ (step_call w pages m).reply
+      go : (t : Option Registers) → registers_of w ≡ t → 2 ≤ (step_call w pages m).reply
           → ((step_call w pages m).words ≡ w) × ((step_call w pages m).memory ≡ m)
-      go (Record r) e = rw (e, step_call) (of_result r (words_again w r e) (stepped pages r m))
-      go NoRecord e = rw (e, step_call) (λ h. (refl, refl))
+      go (Some r) e = rw (e, step_call) (of_result r (words_again w r e) (stepped pages r m))
+      go None e = rw (e, step_call) (λ h. (refl, refl))

@@ -14,7 +14,7 @@ use Rattle.machine.specs.Step.{stepped, ran, Leaves}
 use Rattle.acts.specs.declared.record.Registers.{Registers}
 use Rattle.acts.specs.declared.replies.Reply.{Reply}
 use Rattle.acts.specs.declared.replies.Stepped.{Stepped}
-use Rattle.acts.specs.declared.record.Taken.TheVariants.{Record, NoRecord}
+use Rattle.std.specs.Prelude.{Some, None}
 use Rattle.acts.specs.Record.{words_of, registers_of}
 
 pub record Answered : Type 0 where
@@ -53,7 +53,7 @@ step_of pages m r =
 
 -- words that are no record are a bad call, and all is left as given
 unfoldable pub step_call : List ℕ → List ℕ → List ℕ → Called
-step_call w pages m = elim (registers_of w) [ Record r ↦ step_of pages m r | NoRecord ↦ called (number Reply.BadCall) w m ]
+step_call w pages m = elim (registers_of w) [ Some r ↦ step_of pages m r | None ↦ called (number Reply.BadCall) w m ]
 
 pub record RunCalled : Type 0 where
   pub call : Called
@@ -75,5 +75,5 @@ run_of pages m budget r =
 unfoldable pub run_call : List ℕ → List ℕ → List ℕ → ℕ → List ℕ → RunCalled
 run_call w pages m budget count =
     cond (eqb (length count) 1)
-    (elim (registers_of w) [ Record r ↦ run_of pages m budget r | NoRecord ↦ run_called (called (number Reply.BadCall) w m) (0 ∷ []) ])
+    (elim (registers_of w) [ Some r ↦ run_of pages m budget r | None ↦ run_called (called (number Reply.BadCall) w m) (0 ∷ []) ])
     (run_called (called (number Reply.BadCall) w m) count)

@@ -3,8 +3,7 @@ ghost use Rattle.std.specs.Prelude.{◌≡◌, [], ◌∷◌};
 ghost use Rattle.a400.specs.Calls.{fresh_call, step_call, run_call, Answers, Calls, RunCalls};
 
 use crate::record::write_record;
-use acts::record::{RECORD_WORDS, Taken, fresh_record, read_record};
-use acts::replies::number_of;
+use acts::record::{RECORD_WORDS, Registers};
 use machine::run::run;
 
 #[unsafe(no_mangle)]
@@ -15,7 +14,7 @@ pub extern "C" fn a400_fresh(words: &mut [u16]) -> u32
     if words.len() != RECORD_WORDS {
         return 8;
     }
-    write_record(fresh_record(), words);
+    write_record(Registers::fresh(), words);
     0
 }
 
@@ -31,18 +30,14 @@ struct Made {
 fn call(words: &mut [u16], pages: &mut [u16], memory: &mut [u16], budget: u32) -> Made
     ensures { RunCalls (run_call words.old pages.old memory.old budget (0 ∷ [])) pages.old result.reply words.new pages.new memory.new (result.count ∷ []) }
 {
-    match read_record(words) {
-        Taken::Record(r) => {
-            let s = run(budget, r, pages, memory);
-            let reply = s.reply;
-            let registers = s.registers;
-            write_record(registers, words);
-            Made {
-                reply: number_of(reply),
-                count: s.count,
-            }
-        }
-        Taken::NoRecord => Made { reply: 8, count: 0 },
+    let Some(r) = Registers::from_words(words) else {
+        return Made { reply: 8, count: 0 };
+    };
+    let ran = run(budget, r, pages, memory);
+    write_record(ran.registers, words);
+    Made {
+        reply: u32::from(ran.reply),
+        count: ran.count,
     }
 }
 
