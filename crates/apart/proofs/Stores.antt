@@ -70,7 +70,7 @@ one_kept pages wmap s m m' o agree =
       );
     }
   where
-    reopen : (index : ℕ) → Ok (Place.Memory s.index) ≡ Ok (Place.Memory index) → OpenToStore pages wmap (index / 1024)
+    reopen : (index : ℕ) → ◌≡◌ {A = Result Place Trouble} (Ok (Place.Memory s.index)) (Ok (Place.Memory index)) → OpenToStore pages wmap (index / 1024)
     reopen index e = let z : s.index ≡ index = cc in rw z at o
 
 then_kept : (pages : List ℕ) (wmap : ℕ) (m m' n n' o o' : List ℕ)

@@ -2,7 +2,7 @@
 ghost use Rattle.std.specs.Prelude.{◌≡◌, ◌+◌, ◌*◌, ◌<◌, get_or};
 ghost use Rattle.list.specs.Image.{tabulated, image_word, page_names, is_whole, listed};
 
-use acts::record::fresh_record;
+use acts::record::Registers;
 use acts::replies::{Ran, Reply};
 use std::array;
 
@@ -51,7 +51,7 @@ pub fn run_image(bytes: &[u8]) -> Ran
     ensures { result ≡ listed bytes.now }
 {
     let length = bytes.len();
-    let fresh = fresh_record();
+    let fresh = Registers::fresh();
     if is_whole(length) {
         let mut pages = page_registers();
         let mut memory = image_words(bytes);

@@ -4,7 +4,7 @@ ghost use Rattle.list.specs.Image.{listed};
 ghost use Rattle.list.specs.Line.{header, line_of, listing};
 
 use crate::image::run_image;
-use acts::replies::{Ran, number_of};
+use acts::replies::Ran;
 use octal::{Bit, Octal};
 use std::fmt;
 
@@ -21,7 +21,7 @@ impl fmt::Display for Listing {
             count,
             registers: r,
         } = self.0;
-        let answer = number_of(reply);
+        let answer = u32::from(reply);
         let (p, a, b) = (Octal(r.p), Octal(r.a), Octal(r.b));
         let (e, o) = (Bit(r.e), Bit(r.o));
         writeln!(f, "answer steps P A B E O")?;

@@ -10,7 +10,7 @@ returns-then-is_whole c =
       c.run.ensures.goes.outcome,
       c.page_registers-pages.ensures,
       c.image_words-memory.ensures,
-      c.fresh_record-fresh.ensures,
+      c.fresh-fresh.ensures,
       take_tabulated (image_word c.args.bytes.now) (length c.args.bytes.now / 2) 8192
           (omega (arith, most (length c.args.bytes.now) (sym c.is_whole.ensures ∙ c.if-is_whole.true))),
       ← c.is_whole.ensures,
