@@ -12,7 +12,8 @@ use maps::troubles::Trouble;
 use word::bits::weight_of;
 use word::sums::past;
 
-// The order of the fields is no part of their meaning. In this one no register that most steps change lies
+// A record is copied whole and one register then set: made anew by `..` it is copied register by register, and frequent steps
+// take half as long again. The order of the fields is no part of their meaning. In this one no register that most steps change lies
 // beside others that they leave, as such are copied as one number and taken apart again at each step.
 #[derive(Clone, Copy, Debug, PartialEq, Eq)]
 pub struct Registers {
@@ -76,10 +77,12 @@ impl Registers {
     pub fn with_register(self, g: Register, v: u16) -> Registers
         ensures { result ≡ with_register g self v }
     {
+        let mut s = self;
         match g {
-            Register::A => Registers { a: v, ..self },
-            Register::B => Registers { b: v, ..self },
+            Register::A => s.a = v,
+            Register::B => s.b = v,
         }
+        s
     }
 
     pub fn index(self, i: Index) -> u16
@@ -94,17 +97,21 @@ impl Registers {
     pub fn with_index(self, i: Index, v: u16) -> Registers
         ensures { result ≡ with_index i self v }
     {
+        let mut s = self;
         match i {
-            Index::X => Registers { x: v, ..self },
-            Index::Y => Registers { y: v, ..self },
+            Index::X => s.x = v,
+            Index::Y => s.y = v,
         }
+        s
     }
 
     // P elsewhere.
     pub fn at(self, q: u16) -> Registers
         ensures { result ≡ with_p self q }
     {
-        Registers { p: q, ..self }
+        let mut s = self;
+        s.p = q;
+        s
     }
 
     // P moved on by n words, in its 15 bits.
