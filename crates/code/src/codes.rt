@@ -269,5 +269,5 @@ pub fn extended_length(extended: Extended) -> u16
 pub fn is_privileged(word: u16) -> bool
     ensures { result ≡ privileged word }
 {
-    0o105700 <= word && word <= 0o105711
+    (0o105700..=0o105711).contains(&word)
 }
