@@ -1,4 +1,5 @@
 -- The rows of the table stand by rising code, and the words of a row end before those of the next begin.
+--     span, clean                 how many words a row has; that a long shift's code has no count in it
 --     risen                       the codes of the rows rise
 --     sought_none, sought_last    so the row of a word, if one has it, is the last whose code is not past the word
 -- Assumes nothing.
@@ -22,12 +23,12 @@ use Rattle.code.specs.declared.codes.Entry.{Entry}
 use Rattle.code.specs.Codes.{row, rows, covers, find_word}
 
 -- how many words a row of a kind has
-abbrev span : Kind → ℕ
+abbrev pub span : Kind → ℕ
 span (Exact e) = 1
 span (Long s) = 16
 
 -- a long shift's code has no count in it
-abbrev clean : Kind → ℕ → Bool
+abbrev pub clean : Kind → ℕ → Bool
 clean (Exact e) code = true
 clean (Long s) code = eqb (code % 16) 0
 
