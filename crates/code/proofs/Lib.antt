@@ -2,6 +2,7 @@
 --     Truth           truth values
 --     Digits          numbers from their parts
 --     Search          the search of a table
+--     Rising          the row of a word by halving
 --     Table           each kind is found in the table, and has its own number
 --     Picks           the fields that are a choice, and their numbers
 --     Fields          the groups that their leading bits decide, written and read again
@@ -12,6 +13,7 @@
 pub mod Truth
 pub mod Digits
 pub mod Search
+pub mod Rising
 pub mod Table
 pub mod Picks
 pub mod Fields

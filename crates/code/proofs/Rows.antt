@@ -26,6 +26,7 @@ use Rattle.code.specs.Instructions.{memory_reference, shift_rotate, alter_skip, 
 use Rattle.code.specs.Instructions.{write_long_shift, write_extended, write_not_built}
 use Rattle.code.proofs.Digits.{below, under}
 use Rattle.code.proofs.Truth.{never, is_true, both}
+use Rattle.code.proofs.Rising.{span, clean}
 use Rattle.code.proofs.Search.{every, given_test, given_every}
 use Rattle.code.proofs.Table.{once, kind_is, code_small}
 use Rattle.code.proofs.Fields.{is_extended, no_word, Reads}
@@ -43,14 +44,6 @@ found_kind None kind = false
 -- bits 15 to 12 are 1000 and bit 10 is clear
 abbrev in_group : ℕ → Bool
 in_group w = cond (eqb (w / 0o10000) 8) (eqb (w / 0o2000 % 2) 0) false
-
-abbrev span : Kind → ℕ
-span (Exact e) = 1
-span (Long s) = 16
-
-abbrev clean : Kind → ℕ → Bool
-clean (Exact e) code = true
-clean (Long s) code = eqb (code % 16) 0
 
 abbrev own : Entry → ℕ → Bool
 own e n = cond (in_group (e.code + n)) (found_kind (find_word (e.code + n)) e.kind) false

@@ -24,6 +24,7 @@ use Rattle.code.specs.declared.instructions.IoOperation.{IoOperation}
 use Rattle.code.specs.declared.instructions.IoOperation.TheVariants.{Hlt, Flag, Sfc, Sfs, Mia, Lia, Ota, Control}
 use Rattle.code.specs.declared.instructions.Instruction.{Instruction}
 use Rattle.code.specs.declared.instructions.Instruction.TheVariants.{MemoryReference, ShiftRotate, AlterSkip, InputOutput, LongShift as Shift, Extended, NotBuilt}
+pub use Rattle.word.specs.Long.{places}
 pub use Rattle.code.specs.Kinds.{registers, register_at}
 use Rattle.code.specs.Codes.{find_word, find_kind}
 
@@ -147,10 +148,6 @@ alter_skip w = AlterSkip (alter_fields w)
 -- "bits 5 to 0 the select code"; bits 11 and 9 are kept for every code
 unfoldable pub input_output : ℕ → Instruction
 input_output w = InputOutput (io_at (w / 0o100 % 8)) (bit 11 w) (bit 9 w) (w % 0o100)
-
--- "n from 1 to 16 (low four bits, 0 means 16)"
-abbrev pub places : ℕ → ℕ
-places w = cond (eqb (w % 16) 0) 16 (w % 16)
 
 abbrev pub of_kind : Kind → ℕ → Instruction
 of_kind (Exact e) w = Extended e

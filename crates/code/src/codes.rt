@@ -239,11 +239,16 @@ impl Entry {
     }
 }
 
-#[tactic(auto, unfolding(crate::specs::Codes::find_word, crate::specs::Codes::rows))]
+// The codes rise, and no row has a word of the next one's: a word's row is the last whose code is not past it.
 pub fn find_word(word: u16) -> Option<Entry>
     ensures { result ≡ find_word word }
 {
-    TABLE.iter().copied().find(|row| row.covers(word))
+    let end = TABLE.partition_point(|row| row.code <= word);
+    if end == 0 {
+        return None;
+    }
+    let row = TABLE[end - 1];
+    row.covers(word).then_some(row)
 }
 
 pub fn find_kind(kind: Kind) -> Option<Entry>
@@ -264,5 +269,5 @@ pub fn extended_length(extended: Extended) -> u16
 pub fn is_privileged(word: u16) -> bool
     ensures { result ≡ privileged word }
 {
-    0o105700 <= word && word <= 0o105711
+    (0o105700..=0o105711).contains(&word)
 }
