@@ -104,7 +104,8 @@ pub fn is_met(i: AlterSkip, e: bool, w: u16, u: u16) -> bool
 fn end_alter(i: AlterSkip, w: u16, e: bool, r: Registers) -> Registers
     ensures { result ≡ alter_ended i w e r }
 {
-    let mut s = Registers { e, ..r };
+    let mut s = r;
+    s.e = e;
     let mut u = w;
     if i.ina {
         let t = increment(w);
@@ -129,13 +130,11 @@ pub fn long_rotate(kind: LongShift, n: u16, r: Registers) -> Registers
     ensures { result ≡ long_rotated kind n r }
 {
     let t = long_shift(kind, n, r.b, r.a, r.o);
-    Registers {
-        a: t.a,
-        b: t.b,
-        o: t.o,
-        ..r
-    }
-    .ahead(1)
+    let mut s = r;
+    s.a = t.a;
+    s.b = t.b;
+    s.o = t.o;
+    s.ahead(1)
 }
 
 // CAX and its kin.

@@ -58,41 +58,35 @@ pub enum Way {
 pub fn set_flags(t: Sum, r: Registers) -> Registers
     ensures { result ≡ flagged t r }
 {
-    Registers {
-        e: r.e | t.carry,
-        o: r.o | t.overflow,
-        ..r
-    }
+    let mut s = r;
+    s.e = r.e | t.carry;
+    s.o = r.o | t.overflow;
+    s
 }
 
 pub fn take_quotient(q: Option<Quotient>, r: Registers) -> Registers
     ensures { result ≡ quotient q r }
 {
+    let mut s = r;
     match q {
-        Some(
-            Quotient {
-                quotient,
-                remainder,
-            },
-        ) => Registers {
-            a: quotient,
-            b: remainder,
-            o: false,
-            ..r
-        },
-        None => Registers { o: true, ..r },
+        Some(q) => {
+            s.a = q.quotient;
+            s.b = q.remainder;
+            s.o = false;
+        }
+        None => s.o = true,
     }
+    s
 }
 
 pub fn take_product(t: Product, r: Registers) -> Registers
     ensures { result ≡ with_o (with_b (with_a r t.a) t.b) false }
 {
-    Registers {
-        a: t.a,
-        b: t.b,
-        o: false,
-        ..r
-    }
+    let mut s = r;
+    s.a = t.a;
+    s.b = t.b;
+    s.o = false;
+    s
 }
 
 impl Taking {

@@ -2,6 +2,7 @@
 --     open_goes, present_goes     a test that is passed
 --     Reaches                     each element of a range is one that an access reaches
 --     reaches, ready              they are, where the tests of the range, and of a move, succeed
+--     passes                      a move goes on where its tests succeed
 --     leads, move_one             the place of an element that an access reaches; one element moved
 -- Assumes nothing.
 use Rattle.std.proofs.Common.{◌≡◌, ℕ, zero, suc, ◌+◌, ◌-◌, ◌*◌, ◌/◌, ◌%◌, ◌<◌, Bool, true, false, cond, ◌&&◌, ◌||◌, List, length, sym, refl, ap, ◌∙◌, arith}
@@ -13,7 +14,7 @@ use Rattle.maps.specs.declared.pages.Purpose.{Purpose}
 use Rattle.maps.specs.declared.pages.Place.{Place}
 use Rattle.maps.specs.declared.troubles.Trouble.{Trouble}
 use Rattle.acts.specs.Acts.{Act, Outcome, fin, stop, done, on_open, on_tested, exec}
-use Rattle.strings.specs.Strings.{word_at, along, purpose_of, touches, opens_all, present_all, moving, all_open, all_present, tested}
+use Rattle.strings.specs.Strings.{word_at, along, purpose_of, touches, opens_all, present_all, moving, touched, all_open, all_present, tested}
 use Rattle.strings.specs.Copies.{InMemory, lead, place_in, carried}
 use Rattle.acts.specs.declared.record.Registers.{Registers}
 use Rattle.acts.specs.declared.replies.Refusal.{Refusal}
@@ -127,6 +128,16 @@ module _ (pages : List ℕ) where
               reaches j.element j.from Purpose.Read j.source j.count _ _ m a f h,
               reaches j.element j.to (purpose_of j.element) j.target j.count _ _ m b g i,
             )
+
+    -- the tests of a move told to succeed
+    pub passes : (j : Move) (m : List ℕ) (k : Act) {x o : Bool} {p : Result Unit Trouble}
+        → x ≡ touched j → x ≡ false
+        → ((m : List ℕ) (k : Act) → exec pages (all_open j k) r m ≡ on_open o (exec pages k r m))
+        → o ≡ true
+        → ((k : Act) → exec pages (all_present j k) r m ≡ on_tested p (exec pages k r m))
+        → p ≡ Ok tt
+        → exec pages (tested j k) r m ≡ exec pages k r m
+    passes j m k e g h i q l = rw (← e, g) (h m _ ∙ (rw i (q k ∙ (rw l))))
 
     -- one element moved, whose word and whose target an access reaches
     pub move_one : (u : Element) (from to : Map) (s d n : ℕ) (k : Act) (m : List ℕ)

@@ -1,6 +1,7 @@
 -- Elements that lie on one page, a stretch of them at a time.
 --     along_on, OnPage, page_on       the elements of a stretch, and their page
 --     first_past                      the first trouble of a range: that of the last element of a stretch, or it lies past it
+--     passed                          a range whose every word passes a test
 --     open_told, present_told         protection and presence are told by pages
 --     opens_first, presents_first     `exec` of the tests of a range, by its first trouble
 -- Assumes nothing.
@@ -88,6 +89,11 @@ module _ (test : ℕ → Result Unit Trouble) (h : ToldByPages test) (u : Elemen
       let o : suc j - 1 ≡ j = omega arith in
       let c' = rw o at c in
       rw (← f, e, d, c') (first_stretch at j n b s.within s.page)
+
+pub passed : (test : ℕ → Result Unit Trouble) → ((x : ℕ) → test x ≡ Ok tt) → (u : Element) (at n : ℕ) → first_trouble test u at n ≡ Ok tt
+unfolding first_trouble
+passed test h u at zero = refl
+passed test h u at (suc n) = rw (h (word_at u at)) (passed test h u (along u at 1) n)
 
 -- the test of protection as one that meets trouble
 abbrev pub opening : Bool → Result Unit Trouble
