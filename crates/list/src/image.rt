@@ -47,6 +47,7 @@ fn is_whole(length: usize) -> bool
 }
 
 // A run of up to 1,000 steps from the fresh record.
+#[tactic(auto, using(crate::proofs::Tables::take_tabulated, crate::proofs::Tables::most))]
 pub fn run_image(bytes: &[u8]) -> Ran
     ensures { result ≡ listed bytes.now }
 {

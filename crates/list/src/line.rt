@@ -30,6 +30,7 @@ impl fmt::Display for Listing {
     }
 }
 
+#[tactic(auto, unfolding(crate::specs::Line::listing))]
 pub fn list_image(bytes: &[u8]) -> Listing
     ensures run { result.0 ≡ listed bytes.now }
     ensures text { ⟦<Listing as fmt::Display>⟧.output result ≡ Some (listing bytes.now) }

@@ -10,11 +10,10 @@ pub fn read_full<R: Read>(from: &mut R, buf: &mut [u8]) -> io::Result<usize>
 {
     let mut done = 0;
     while done < buf.len() {
-        let n = from.read(&mut buf[done..])?;
-        if n == 0 {
-            break;
+        match from.read(&mut buf[done..])? {
+            0 => break,
+            n => done += n,
         }
-        done += n;
     }
     Ok(done)
 }

@@ -34,6 +34,7 @@ pub struct Octal(pub u16);
 impl fmt::Display for Octal {
     ghost output = { λ word. Some (octal_digits word.0) };
 
+    #[tactic(auto, using(crate::proofs::Texts::octal_text))]
     fn fmt<W: fmt::Write>(&self, f: &mut fmt::Formatter<W>) -> fmt::Result {
         let word = self.0;
         write!(f, "{word:06o}")
@@ -47,6 +48,7 @@ pub struct Bit(pub bool);
 impl fmt::Display for Bit {
     ghost output = { λ bit. Some (bit_digit bit.0 ∷ []) };
 
+    #[tactic(auto, using(crate::proofs::Texts::bit_text))]
     fn fmt<W: fmt::Write>(&self, f: &mut fmt::Formatter<W>) -> fmt::Result {
         write!(f, "{}", u8::from(self.0))
     }

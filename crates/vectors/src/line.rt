@@ -1,4 +1,4 @@
-// A line of standard input, read byte by byte: a name, a colon, and what the vector sets.
+// What a vector's line says behind its colon.
 //
 //     name: A 14 WMAP 4040 MEM 100 6 7 11 MAP 40 1 STEP
 //
@@ -10,262 +10,183 @@
 // ask for the one before it. STEP, or RUN with a budget in decimal, ends the line. What is not named
 // is as in a fresh record, with 8 pages of memory, zero, and every map names page n for page n. A line
 // that begins with # is a comment.
-use crate::image::{IMAGE, IMAGE_END, LEND_AT, PAGES_AT, REGISTERS_AT, link};
-use crate::state::put;
-use word::sums::add;
+ghost use Rattle.std.specs.Prelude.{◌≤◌, IfSome};
 
-// A word is a number here, its letters the digits to base 256.
-const A: u32 = 0x41;
+use crate::start::{Command, Start};
+use acts::record::Registers;
 
-const B: u32 = 0x42;
-
-const E: u32 = 0x45;
-
-const O: u32 = 0x4f;
-
-const P: u32 = 0x50;
-
-const X: u32 = 0x58;
-
-const Y: u32 = 0x59;
-
-const WMAP: u32 = 0x574d4150;
-
-const IMAP: u32 = 0x494d4150;
-
-const VIOL: u32 = 0x56494f4c;
-
-const INTR: u32 = 0x494e5452;
-
-const TRAP: u32 = 0x54524150;
-
-const SWIT: u32 = 0x53574954;
-
-const LITE: u32 = 0x4c495445;
-
-const LEND: u32 = 0x4c454e44;
-
-const REGS: u32 = 0x52454753;
-
-const MEM: u32 = 0x4d454d;
-
-const MAP: u32 = 0x4d4150;
-
-const LINK: u32 = 0x4c494e4b;
-
-const STEP: u32 = 0x53544550;
-
-const RUN: u32 = 0x52554e;
-
-// Where in a line a byte is; END is the end of the input.
-pub(crate) const START: u8 = 0;
-
-pub(crate) const NAME: u8 = 1;
-
-pub(crate) const BODY: u8 = 2;
-
-pub(crate) const COMMENT: u8 = 3;
-
-pub(crate) const END: u8 = 4;
-
-// What has been read: the word or number that is not ended, the last word that is, whether a number
-// has come since, where the next one goes, and whether something was wrong.
 #[derive(Clone, Copy)]
-pub(crate) struct Line {
-    pub(crate) place: u8,
-    pub(crate) word: u32,
-    pub(crate) number: u32,
-    pub(crate) is_number: bool,
-    pub(crate) field: u32,
-    pub(crate) is_first: bool,
-    pub(crate) at: u16,
-    pub(crate) budget: u32,
-    pub(crate) is_wrong: bool,
+enum Register {
+    A,
+    B,
+    X,
+    Y,
+    P,
+    E,
+    O,
+    Wmap,
+    Imap,
+    Violation,
+    Interrupt,
+    Trap,
+    Switches,
+    Lights,
 }
 
-pub(crate) fn start() -> Line {
-    Line {
-        place: START,
-        word: 0,
-        number: 0,
-        is_number: false,
-        field: 0,
-        is_first: false,
-        at: IMAGE_END,
-        budget: 0,
-        is_wrong: false,
-    }
+// The largest place that MEM, MAP and LINK take.
+const LAST: usize = 0o77777;
+
+// What a number means that comes next. Where a word takes as many as come, an option is None before the first.
+#[derive(Clone, Copy)]
+enum Next {
+    Nothing,
+    Register(Register),
+    LentWords,
+    LentPages,
+    Memory(Option<usize>),
+    Map(Option<usize>),
+    Link,
+    MoreLinks,
+    Step,
+    Run(Option<u32>),
 }
 
-fn wrong(l: Line) -> Line {
-    let mut m = l;
-    m.is_wrong = true;
-    m
+fn octal(token: &[u8]) -> Option<u16> {
+    u16::from_str_radix(str::from_utf8(token).ok()?, 8).ok()
 }
 
-fn letter(l: Line, c: u8) -> Line {
-    let word = l.word;
-    if l.is_number {
-        return wrong(l);
-    }
-    if word >= 0x1000000 {
-        return wrong(l);
-    }
-    let mut m = l;
-    m.word = word * 256 + c as u32;
-    m
+// An octal number that is no more than `most`.
+fn octal_up_to(token: &[u8], most: usize) -> Option<usize>
+    ensures { IfSome result (λ n. n ≤ most) }
+{
+    octal(token).map(usize::from).filter(|n| *n <= most)
 }
 
-fn digit(l: Line, d: u8) -> Line {
-    let number = l.number;
-    if l.word != 0 {
-        return wrong(l);
-    }
-    if number >= 0x10000000 {
-        return wrong(l);
-    }
-    let mut m = l;
-    m.is_number = true;
-    if l.field == RUN {
-        m.number = number * 10 + d as u32;
-        return m;
-    }
-    if d >= 8 {
-        return wrong(l);
-    }
-    m.number = number * 8 + d as u32;
-    m
+// A budget has up to ten digits, and the number without the last is below 2 ^ 28.
+fn budget(token: &[u8]) -> Option<u32> {
+    let budget = str::from_utf8(token).ok()?.parse::<u32>().ok();
+    budget.filter(|budget| *budget / 10 < 0x10000000)
 }
 
-// The place of a word's number in the image: past its end for RUN, STEP, LINK and what is no word.
-fn place(word: u32) -> u16 {
-    match word {
-        MEM => 0,
-        MAP => PAGES_AT,
-        A => REGISTERS_AT,
-        B => REGISTERS_AT + 1,
-        X => REGISTERS_AT + 2,
-        Y => REGISTERS_AT + 3,
-        P => REGISTERS_AT + 4,
-        E => REGISTERS_AT + 5,
-        O => REGISTERS_AT + 6,
-        WMAP => REGISTERS_AT + 7,
-        IMAP => REGISTERS_AT + 8,
-        VIOL => REGISTERS_AT + 9,
-        INTR => REGISTERS_AT + 10,
-        TRAP => REGISTERS_AT + 11,
-        SWIT => REGISTERS_AT + 12,
-        LITE => REGISTERS_AT + 13,
-        LEND => LEND_AT,
-        REGS => LEND_AT + 1,
-        _ => IMAGE_END,
+fn bit(value: u16) -> Option<bool> {
+    match value {
+        0 => Some(false),
+        1 => Some(true),
+        _ => None,
     }
 }
 
-// The largest number that may follow a word.
-fn limit(word: u32) -> u32 {
-    match word {
-        E => 1,
-        O => 1,
-        SWIT => 0o377,
-        LITE => 0o377,
-        RUN => 0xffffffff,
-        LINK => 0o77777,
-        LEND => 0o100000,
-        REGS => 0o2000,
-        _ => 0o177777,
+// Puts a word in its place, and says which is the next.
+fn put(words: &mut [u16], at: usize, value: u16) -> Option<usize> {
+    *words.get_mut(at)? = value;
+    Some(at + 1)
+}
+
+impl Register {
+    fn set(self, r: &mut Registers, value: u16) -> Option<()> {
+        match self {
+            Register::A => r.a = value,
+            Register::B => r.b = value,
+            Register::X => r.x = value,
+            Register::Y => r.y = value,
+            Register::P => r.p = value,
+            Register::E => r.e = bit(value)?,
+            Register::O => r.o = bit(value)?,
+            Register::Wmap => r.wmap = value,
+            Register::Imap => r.imap = value,
+            Register::Violation => r.violation = value,
+            Register::Interrupt => r.interrupt = value,
+            Register::Trap => r.trap = value,
+            Register::Switches => r.switches = u8::try_from(value).ok()?,
+            Register::Lights => r.lights = u8::try_from(value).ok()?,
+        }
+        Some(())
     }
 }
 
-fn end_word(l: Line) -> Line {
-    let mut m = l;
-    m.field = l.word;
-    m.word = 0;
-    m.is_first = true;
-    m.at = place(l.word);
-    m.is_wrong = l.is_wrong | l.is_first;
-    m
+impl Next {
+    // What comes after a word. No word may come before the numbers of the one before it, nor behind STEP.
+    fn after_word(self, word: &[u8]) -> Option<Next> {
+        match self {
+            Next::Nothing
+            | Next::Memory(Some(_))
+            | Next::Map(Some(_))
+            | Next::MoreLinks
+            | Next::Run(Some(_)) => {}
+            _ => return None,
+        }
+        Some(match word {
+            b"A" => Next::Register(Register::A),
+            b"B" => Next::Register(Register::B),
+            b"X" => Next::Register(Register::X),
+            b"Y" => Next::Register(Register::Y),
+            b"P" => Next::Register(Register::P),
+            b"E" => Next::Register(Register::E),
+            b"O" => Next::Register(Register::O),
+            b"WMAP" => Next::Register(Register::Wmap),
+            b"IMAP" => Next::Register(Register::Imap),
+            b"VIOL" => Next::Register(Register::Violation),
+            b"INTR" => Next::Register(Register::Interrupt),
+            b"TRAP" => Next::Register(Register::Trap),
+            b"SWIT" => Next::Register(Register::Switches),
+            b"LITE" => Next::Register(Register::Lights),
+            b"LEND" => Next::LentWords,
+            b"REGS" => Next::LentPages,
+            b"MEM" => Next::Memory(None),
+            b"MAP" => Next::Map(None),
+            b"LINK" => Next::Link,
+            b"STEP" => Next::Step,
+            b"RUN" => Next::Run(None),
+            _ => return None,
+        })
+    }
+
+    // What comes after a number, which is set.
+    fn after_number(self, token: &[u8], start: &mut Start) -> Option<Next> {
+        Some(match self {
+            Next::Nothing | Next::Step => return None,
+            Next::Register(register) => {
+                register.set(&mut start.registers, octal(token)?)?;
+                Next::Nothing
+            }
+            Next::LentWords => {
+                start.lent_words = octal_up_to(token, 32768)?;
+                Next::Nothing
+            }
+            Next::LentPages => {
+                start.lent_pages = octal_up_to(token, 1024)?;
+                Next::Nothing
+            }
+            Next::Memory(None) => Next::Memory(Some(octal_up_to(token, LAST)?)),
+            Next::Memory(Some(at)) => Next::Memory(Some(put(
+                &mut start.memory,
+                at,
+                octal(token)?,
+            )?)),
+            Next::Map(None) => Next::Map(Some(octal_up_to(token, LAST)?)),
+            Next::Map(Some(at)) => Next::Map(Some(put(&mut start.pages, at, octal(token)?)?)),
+            Next::Link | Next::MoreLinks => {
+                start.link(octal_up_to(token, LAST)?);
+                Next::MoreLinks
+            }
+            Next::Run(_) => Next::Run(Some(budget(token)?)),
+        })
+    }
 }
 
-// Where the part of the image ends that a word's numbers go into.
-fn end(word: u32) -> u16 {
-    match word {
-        MEM => PAGES_AT,
-        MAP => REGISTERS_AT,
-        _ => IMAGE_END,
+// Sets what a line says, and gives what is to be done, if it is a vector.
+pub(crate) fn read(line: &[u8], start: &mut Start) -> Option<Command> {
+    let mut next = Next::Nothing;
+    for token in line.split(|c| *c == b' ').filter(|token| !token.is_empty()) {
+        next = match token[0] {
+            b'A'..=b'Z' => next.after_word(token)?,
+            b'0'..=b'9' => next.after_number(token, start)?,
+            _ => return None,
+        };
     }
-}
-
-// A number that goes into the image, or that says where the next ones go.
-fn store(l: Line, v: u16, image: &mut [u16; IMAGE]) -> Line {
-    let mut m = l;
-    let at = l.at;
-    let is_block = (l.field == MEM) | (l.field == MAP);
-    m.is_first = false;
-    if is_block & l.is_first {
-        m.at = add(at, v).word;
-        m.is_wrong = l.is_wrong | (v >= 0o100000);
-        return m;
+    match next {
+        Next::Step => Some(Command::Step),
+        Next::Run(Some(budget)) => Some(Command::Run(budget)),
+        _ => None,
     }
-    if at >= end(l.field) {
-        return wrong(m);
-    }
-    put(image, at, v);
-    m.at = if is_block { add(at, 1).word } else { IMAGE_END };
-    m
-}
-
-fn end_number(l: Line, image: &mut [u16; IMAGE]) -> Line {
-    let mut m = l;
-    m.is_number = false;
-    m.number = 0;
-    let n = l.number;
-    if n > limit(l.field) {
-        return wrong(m);
-    }
-    let v = (n % 65536) as u16;
-    if l.field == RUN {
-        m.is_first = false;
-        m.budget = n;
-        return m;
-    }
-    if l.field == LINK {
-        m.is_first = false;
-        link(image, v);
-        return m;
-    }
-    store(m, v, image)
-}
-
-// What a space or the line's end ends.
-pub(crate) fn end_token(l: Line, image: &mut [u16; IMAGE]) -> Line {
-    if l.word != 0 {
-        return end_word(l);
-    }
-    if l.is_number {
-        return end_number(l, image);
-    }
-    l
-}
-
-// A letter, a digit, or what a line may not have.
-pub(crate) fn within_token(l: Line, c: u8) -> Line {
-    if (b'A' <= c) & (c <= b'Z') {
-        return letter(l, c);
-    }
-    if c > b'9' {
-        return wrong(l);
-    }
-    if c < b'0' {
-        return wrong(l);
-    }
-    digit(l, c - b'0')
-}
-
-pub(crate) fn is_step(l: Line) -> bool {
-    !l.is_wrong & (l.field == STEP) & l.is_first
-}
-
-pub(crate) fn is_run(l: Line) -> bool {
-    !l.is_wrong & (l.field == RUN) & !l.is_first
 }

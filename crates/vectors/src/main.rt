@@ -3,10 +3,10 @@
 #![tactic(auto)]
 
 mod all_or_nothing;
-mod image;
 mod line;
 mod overlap;
 mod show;
+mod start;
 mod state;
 mod text;
 

@@ -2,107 +2,105 @@
 // that every place takes the first element (C12 at other lengths): the expected values are the first
 // element in each place of both ranges, the element after them as it was, A and B past their ranges,
 // P three on. stdout has `ok` in each line.
-use crate::state::{byte, differs, plain, program, put, word};
+ghost use Rattle.std.specs.Prelude.{◌≤◌, ◌+◌};
+
+use crate::state::{Memory, plain_pages, set_program};
+use acts::record::{Registers, fresh_record};
 use acts::replies::{Stepped, number_of};
-use std::io;
-use word::sums::add;
+use std::{array, io};
 
-const COUNT: u16 = 0o10;
+const FIRST: u16 = 1000;
 
-fn plus(a: u16, b: u16) -> u16 {
-    add(a, b).word
-}
-
-// The word i places into the table, before the move.
-fn pattern(i: u16) -> u16 {
-    plus(1000, i)
-}
-
-fn fill(memory: &mut [u16], first: u16, words: u16) {
-    for i in 0..words {
-        put(memory, plus(first, i), pattern(i));
+// The words from a place on count up from FIRST.
+fn table(from: u16, words: usize) -> Memory {
+    let mut memory = [0; 3072];
+    let places = memory.iter_mut().skip(usize::from(from)).take(words);
+    for (word, value) in places.zip(FIRST..=u16::MAX) {
+        *word = value;
     }
+    memory
 }
 
-fn moved(code: u16, from: u16, n: u16, memory: &mut [u16]) -> Stepped {
-    let mut pages: [u16; 1024] = [0; 1024];
-    plain(&mut pages);
-    program(memory, code, COUNT, 0);
-    put(memory, COUNT, n);
-    let mut r = acts::record::fresh_record();
-    r.a = from;
-    r.b = plus(from, 1);
-    machine::step::step(r, &mut pages, memory)
+// n elements from the place `from` on, moved to the place after it.
+fn moved(code: u16, from: u16, n: u8, memory: &mut Memory) -> Stepped {
+    let mut pages = plain_pages();
+    set_program(memory, [code, 0o10, 0]);
+    memory[0o10] = u16::from(n);
+    let registers = Registers {
+        a: from,
+        b: from.wrapping_add(1),
+        ..fresh_record()
+    };
+    machine::step::step(registers, &mut pages, memory)
 }
 
 // How much of what is left beside memory isn't as expected.
-fn wrong_registers(s: Stepped, from: u16, n: u16) -> u16 {
-    let answer = s.reply;
-    let reply: u16 = if number_of(answer) == 0 { 0 } else { 1 };
-    let a = differs(s.registers.a, plus(from, n));
-    let b = differs(s.registers.b, plus(from, plus(n, 1)));
-    let p = differs(s.registers.p, 5);
-    plus(plus(reply, a), plus(b, p))
+fn wrong_registers(s: Stepped, from: u16, n: u8) -> usize
+    ensures { result ≤ 4 }
+{
+    let end = from.wrapping_add(u16::from(n));
+    let r = s.registers;
+    let wrong = [
+        number_of(s.reply) != 0,
+        r.a != end,
+        r.b != end.wrapping_add(1),
+        r.p != 5,
+    ];
+    wrong.iter().filter(|is_wrong| **is_wrong).count()
 }
 
-fn wrong_words(memory: &[u16], from: u16, n: u16) -> u16 {
-    let mut wrong = differs(word(memory, plus(from, plus(n, 1))), pattern(plus(n, 1)));
-    for i in 0..n {
-        wrong = plus(wrong, differs(word(memory, plus(from, i)), pattern(0)));
-    }
-    plus(wrong, differs(word(memory, plus(from, n)), pattern(0)))
+// How many elements from the place `from` on aren't as expected, which is `first` in n + 1 of them, and then `after`.
+fn wrong_elements<T: Copy + PartialEq>(memory: &[T], from: u16, n: u8, first: T, after: T) -> usize
+    ensures { result ≤ n + 2 }
+{
+    let n = usize::from(n);
+    let places = memory.iter().skip(usize::from(from)).take(n + 2);
+    places
+        .enumerate()
+        .filter(|(i, element)| **element != if *i <= n { first } else { after })
+        .count()
 }
 
-// The high byte of 1000 is 3. Byte 2 i of the table is 3 and byte 2 i + 1 is 232 + i, for i below 24.
-fn pattern_byte(j: u16) -> u16 {
-    if j % 2 == 0 { 3 } else { plus(232, j / 2) }
-}
-
-fn wrong_bytes(memory: &[u16], from: u16, n: u16) -> u16 {
-    let mut wrong = differs(
-        byte(memory, plus(from, plus(n, 1))),
-        pattern_byte(plus(n, 1)),
-    );
-    for i in 0..n {
-        wrong = plus(wrong, differs(byte(memory, plus(from, i)), 3));
-    }
-    plus(wrong, differs(byte(memory, plus(from, n)), 3))
-}
-
-fn print(rt: &impl Print, label: &[u8], n: u16, wrong: u16) -> io::Result<()> {
-    rt.write_all(label)?;
+fn print(rt: &impl Print, label: &str, n: u8, wrong: usize) -> io::Result<()> {
     if wrong == 0 {
-        println!(rt; "{n} ok")
+        println!(rt; "{label} {n} ok")
     } else {
-        println!(rt; "{n} wrong {wrong}")
+        println!(rt; "{label} {n} wrong {wrong}")
     }
 }
 
-fn words(rt: &impl Print, label: &[u8], from: u16, n: u16) -> io::Result<()> {
-    let mut memory: [u16; 3072] = [0; 3072];
-    fill(&mut memory, from, 50);
+fn words(rt: &impl Print, label: &str, from: u16, n: u8) -> io::Result<()> {
+    let mut memory = table(from, 50);
     let s = moved(0o105777, from, n, &mut memory);
-    let wrong = plus(wrong_registers(s, from, n), wrong_words(&memory, from, n));
+    let after = FIRST + u16::from(n) + 1;
+    let wrong = wrong_registers(s, from, n) + wrong_elements(&memory, from, n, FIRST, after);
     print(rt, label, n, wrong)
 }
 
-fn bytes(rt: &impl Print, from: u16, n: u16) -> io::Result<()> {
-    let mut memory: [u16; 3072] = [0; 3072];
-    fill(&mut memory, from / 2, 20);
+// The high byte comes first.
+fn byte_of(word: u16, is_low: bool) -> u8 {
+    let [high, low] = word.to_be_bytes();
+    if is_low { low } else { high }
+}
+
+fn bytes(rt: &impl Print, from: u16, n: u8) -> io::Result<()> {
+    let mut memory = table(from / 2, 20);
     let s = moved(0o105765, from, n, &mut memory);
-    let wrong = plus(wrong_registers(s, from, n), wrong_bytes(&memory, from, n));
-    print(rt, b"overlap of bytes ", n, wrong)
+    let bytes: [u8; 6144] = array::from_fn(|i| byte_of(memory[i / 2], i % 2 == 1));
+    let j = u16::from(n) + 1;
+    let after = byte_of(FIRST + j / 2, j % 2 == 1);
+    let wrong = wrong_registers(s, from, n)
+        + wrong_elements(&bytes, from, n, byte_of(FIRST, false), after);
+    print(rt, "overlap of bytes", n, wrong)
 }
 
 pub(crate) fn run(rt: &impl Print) -> io::Result<()> {
     for n in 1..=40 {
-        words(rt, b"overlap ", 0o100, n)?;
+        words(rt, "overlap", 0o100, n)?;
     }
-    words(rt, b"overlap across a page end ", 0o1760, 30)?;
-    bytes(rt, 0o200, 1)?;
-    bytes(rt, 0o200, 2)?;
-    bytes(rt, 0o200, 3)?;
-    bytes(rt, 0o200, 16)?;
-    bytes(rt, 0o200, 33)?;
+    words(rt, "overlap across a page end", 0o1760, 30)?;
+    for n in [1, 2, 3, 16, 33] {
+        bytes(rt, 0o200, n)?;
+    }
     bytes(rt, 0o3760, 30)
 }

@@ -1,136 +1,87 @@
 // The vectors of standard input, each one step or one run, a line of output for each.
-use crate::image::{IMAGE, LEND_AT, PAGES_AT, copy, registers, reset};
-use crate::line::{
-    BODY, COMMENT, END, Line, NAME, START, end_token, is_run, is_step, start, within_token,
-};
-use crate::show::{print_changes, print_ran, print_stepped};
-use crate::state::word;
-use acts::record::Registers;
+use crate::line::read;
+use crate::show::{Listed, print_changes};
+use crate::start::{Command, Start};
+use acts::replies::number_of;
 use octal::input::read_full;
 use std::io;
 use std::io::Input;
 
-fn perform(
-    rt: &impl Print,
-    l: Line,
-    r: Registers,
-    pages: &mut [u16],
-    memory: &mut [u16],
-) -> io::Result<()> {
-    if is_step(l) {
-        print_stepped(rt, machine::step::step(r, pages, memory))
-    } else if is_run(l) {
-        print_ran(rt, machine::run::run(l.budget, r, pages, memory))
-    } else {
-        rt.write_all(b" not a vector")
-    }
-}
-
-fn lend(
-    rt: &impl Print,
-    l: Line,
-    image: &[u16],
-    pages: &mut [u16],
-    memory: &mut [u16],
-) -> io::Result<()> {
-    let named = word(image, LEND_AT + 1) as usize;
-    let lent = word(image, LEND_AT) as usize;
-    let r = registers(image);
-    if named <= pages.len() {
-        if lent <= memory.len() {
-            perform(rt, l, r, &mut pages[..named], &mut memory[..lent])?;
+fn perform(rt: &impl Print, start: &Start, command: Command) -> io::Result<()> {
+    let mut pages = start.pages;
+    let mut memory = start.memory;
+    let lent_pages = &mut pages[..start.lent_pages];
+    let lent_words = &mut memory[..start.lent_words];
+    match command {
+        Command::Step => {
+            let s = machine::step::step(start.registers, lent_pages, lent_words);
+            print!(rt; " {}{}", number_of(s.reply), Listed(s.registers))?;
+        }
+        Command::Run(budget) => {
+            let s = machine::run::run(budget, start.registers, lent_pages, lent_words);
+            let count = s.count;
+            print!(rt;
+                " {} after {count}{}",
+                number_of(s.reply),
+                Listed(s.registers)
+            )?;
         }
     }
-    Ok(())
-}
-
-fn end_vector(rt: &impl Print, l: Line, image: &[u16]) -> io::Result<()> {
-    let mut pages: [u16; 1024] = [0; 1024];
-    let mut memory: [u16; 32768] = [0; 32768];
-    copy(image, PAGES_AT, &mut pages, 1024);
-    copy(image, 0, &mut memory, PAGES_AT);
-    lend(rt, l, image, &mut pages, &mut memory)?;
     rt.write_all(b" |")?;
-    print_changes(rt, b" ", &memory, image, 0, PAGES_AT)?;
-    print_changes(rt, b" MAP ", &pages, image, PAGES_AT, 1024)?;
+    print_changes(rt, " ", &memory, &start.memory)?;
+    print_changes(rt, " MAP ", &pages, &start.pages)?;
     rt.write_all(b"\n")
 }
 
-fn end_line(rt: &impl Print, l: Line, image: &mut [u16; IMAGE]) -> io::Result<Line> {
-    if l.place == NAME {
-        rt.write_all(b": not a vector\n")?;
+// A line up to its colon, and what is behind that. A comment has neither.
+fn parts(line: &[u8]) -> (&[u8], Option<&[u8]>) {
+    if line.first() == Some(&b'#') {
+        return (&[], None);
     }
-    if l.place == BODY {
-        let whole = end_token(l, image);
-        end_vector(rt, whole, image)?;
-        reset(image);
-    }
-    Ok(start())
-}
-
-fn before_colon(rt: &impl Print, l: Line, c: u8) -> io::Result<Line> {
-    let mut m = l;
-    if (l.place == START) & (c == b'#') {
-        m.place = COMMENT;
-        return Ok(m);
-    }
-    let text = [c];
-    rt.write_all(&text)?;
-    m.place = if c == b':' { BODY } else { NAME };
-    Ok(m)
-}
-
-fn take(rt: &impl Print, l: Line, c: u8, image: &mut [u16; IMAGE]) -> io::Result<Line> {
-    if c == b'\n' {
-        return end_line(rt, l, image);
-    }
-    if l.place == COMMENT {
-        return Ok(l);
-    }
-    if l.place != BODY {
-        return before_colon(rt, l, c);
-    }
-    if c == b' ' {
-        return Ok(end_token(l, image));
-    }
-    Ok(within_token(l, c))
-}
-
-fn take_all(
-    rt: &impl Print,
-    first: Line,
-    text: &[u8],
-    image: &mut [u16; IMAGE],
-) -> io::Result<Line> {
-    let mut l = first;
-    for c in text {
-        l = take(rt, l, *c, image)?;
-    }
-    Ok(l)
-}
-
-// Reads once, and takes what came.
-fn take_some(rt: &(impl Input + Print), l: Line, image: &mut [u16; IMAGE]) -> io::Result<Line> {
-    let mut text = [0u8; 4096];
-    let n = read_full(&mut rt.reader(), &mut text)?;
-    if n == 0 {
-        let mut last = end_line(rt, l, image)?;
-        last.place = END;
-        return Ok(last);
-    }
-    take_all(rt, l, &text[..n], image)
-}
-
-// A proved loop has to end, and nothing says that the input does: so it counts its turns down.
-pub(crate) fn run_all(rt: &(impl Input + Print)) -> io::Result<()> {
-    let mut image: [u16; IMAGE] = [0; IMAGE];
-    reset(&mut image);
-    let mut l = start();
-    for _ in 0..10000 {
-        if l.place == END {
-            break;
+    match line.iter().position(|c| *c == b':') {
+        Some(colon) => {
+            let (name, body) = line.split_at(colon + 1);
+            (name, Some(body))
         }
-        l = take_some(rt, l, &mut image)?;
+        None => (line, None),
     }
-    Ok(())
+}
+
+fn take_line(rt: &impl Print, line: &[u8]) -> io::Result<()> {
+    let (name, body) = parts(line);
+    rt.write_all(name)?;
+    let Some(body) = body else {
+        return if name.is_empty() {
+            Ok(())
+        } else {
+            rt.write_all(b": not a vector\n")
+        };
+    };
+    let mut start = Start::fresh();
+    match read(body, &mut start) {
+        Some(command) => perform(rt, &start, command),
+        None => rt.write_all(b" not a vector |\n"),
+    }
+}
+
+// A proved loop has to end, and nothing says that the input does: so it counts its turns down. Of a line that
+// is not read to its end only the name is printed.
+pub(crate) fn run_all(rt: &(impl Input + Print + AllocGlobal)) -> io::Result<()> {
+    let mut line = Vec::new(rt.alloc());
+    let mut text = [0; 4096];
+    for _ in 0..10000 {
+        let n = read_full(&mut rt.reader(), &mut text)?;
+        if n == 0 {
+            return take_line(rt, &line);
+        }
+        for (i, part) in text[..n].split(|c| *c == b'\n').enumerate() {
+            // what stands before is a whole line
+            if i > 0 {
+                take_line(rt, &line)?;
+                line.clear();
+            }
+            line.extend_from_slice(part)?;
+        }
+    }
+    rt.write_all(parts(&line).0)
 }
