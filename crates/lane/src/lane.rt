@@ -5,7 +5,7 @@ ghost use Rattle.lane.specs.Lane.{Tried, carried, Rolls};
 
 use crate::codes::extend;
 use crate::group::{alter, shift};
-use crate::references::{put, reach, step_and_skip, take};
+use crate::references::{put, reach, step, take};
 use acts::record::Registers;
 use code::codes::Register;
 use effects::ways::Taking;
@@ -36,7 +36,15 @@ fn carry(word: u16, at: u16, r: Registers, pages: &[u16], memory: &mut [u16]) ->
         4 => take(Taking::Xor, at, r, pages, memory),
         5 => Some(r.at(at)),
         6 => take(Taking::Ior, at, r, pages, memory),
-        7 => step_and_skip(at, r, pages, memory),
+        // The skip is here and not in `step`: there its two ends would be joined as a sum, and the next fetch would wait for the word.
+        7 => {
+            let stepped = step(at, r, pages, memory)?;
+            if stepped == 0 {
+                Some(r.ahead(2))
+            } else {
+                Some(r.ahead(1))
+            }
+        }
         8 => take(Taking::Add(Register::A), at, r, pages, memory),
         9 => take(Taking::Add(Register::B), at, r, pages, memory),
         10 => take(Taking::Compare(Register::A), at, r, pages, memory),

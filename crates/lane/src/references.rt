@@ -3,10 +3,9 @@ ghost use Rattle.std.specs.Prelude.{◌≡◌, ◌/◌, ◌%◌};
 ghost use Rattle.word.specs.Words.{bit};
 ghost use Rattle.maps.specs.declared.pages.Map.TheVariants.{Execute};
 ghost use Rattle.acts.specs.Acts.{load, save, fin, go_on};
-ghost use Rattle.effects.specs.Ways.{taken as takenBy, way_act};
-ghost use Rattle.effects.specs.declared.ways.Way.TheVariants.{StepAndSkip};
+ghost use Rattle.effects.specs.Ways.{taken as takenBy};
 ghost use Rattle.rules.specs.Rules.{memory_word};
-ghost use Rattle.lane.specs.Lane.{Tried, Led, Keeps};
+ghost use Rattle.lane.specs.Lane.{Tried, Led, Keeps, Steps};
 
 use acts::record::Registers;
 use code::codes::Register;
@@ -100,20 +99,11 @@ pub(crate) fn put(
     Some(r.at(to))
 }
 
-// ISZ: read, then stored plus one.
-pub(crate) fn step_and_skip(
-    at: u16,
-    r: Registers,
-    pages: &[u16],
-    memory: &mut [u16],
-) -> Option<Registers>
-    ensures { Tried pages.now (way_act StepAndSkip r at 1) r memory.old result memory.new }
+// ISZ but for its skip: the word plus one, which is stored.
+pub(crate) fn step(at: u16, r: Registers, pages: &[u16], memory: &mut [u16]) -> Option<u16>
+    ensures { Steps pages.now at r memory.old result memory.new }
 {
     let stepped = increment(r.read(Map::Execute, at, pages, memory).ok()?).word;
     store(stepped, at, r.wmap, pages, memory)?;
-    if stepped == 0 {
-        Some(r.ahead(2))
-    } else {
-        Some(r.ahead(1))
-    }
+    Some(stepped)
 }

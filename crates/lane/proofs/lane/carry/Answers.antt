@@ -49,9 +49,13 @@ pub returns-in-6 : goal.returns-in-6
 unfolding carried
 returns-in-6 c = rw c.in-6.is c.take-in-6.ensures
 
-pub returns-in-7 : goal.returns-in-7
+pub returns-then-stepped-eq0 : goal.returns-then-stepped-eq0
 unfolding carried
-returns-in-7 c = rw c.in-7.is c.step_and_skip.ensures
+returns-then-stepped-eq0 c = rw (c.in-7.is, c.ahead.ensures) (rw (eq-eqb _ _ c.if-stepped-eq0.true) at c.in_ok-stepped-in-7.ensures)
+
+pub returns-else-stepped-eq0 : goal.returns-else-stepped-eq0
+unfolding carried
+returns-else-stepped-eq0 c = rw (c.in-7.is, c.ahead-else-stepped-eq0.ensures) (rw (ne_eqb _ _ c.if-stepped-eq0.false) at c.in_ok-stepped-in-7.ensures)
 
 pub returns-in-8 : goal.returns-in-8
 unfolding carried
