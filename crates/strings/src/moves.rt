@@ -177,7 +177,8 @@ impl Span {
         }
     }
 
-    // The first trouble that a test of words meets, where the last word on each page tells of those before it.
+    // The first trouble that a test of words meets, where the last word on each page tells of those before it: the
+    // range is walked a page at a time.
     // Drawn into its callers, as test_open and test_present are: called, they cost a short move a fifth more.
     #[inline(always)]
     #[tactic(auto, unfolding(crate::specs::Copies::first_trouble))]

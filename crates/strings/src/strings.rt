@@ -162,7 +162,7 @@ fn conclude(order: Ordering, at: u16, end: u16, r: Registers) -> Registers
         .ahead(n)
 }
 
-// One pair after another, to the first difference.
+// One pair after another, to the first difference. The loop yields the order and its place, which a `for` cannot.
 #[tactic(auto, using(crate::proofs::Comparisons::went_on, crate::proofs::Comparisons::found, crate::proofs::Comparisons::ended), unfolding(crate::specs::Strings::comparing))]
 pub(crate) fn compare_strings(
     u: Element,
