@@ -1,4 +1,4 @@
-// Instructions as ten flat fields: the calls that read and write one.
+// Instructions as ten flat fields: the calls that read and write one. The numbers of the classes are the C interface's.
 ghost use Rattle.std.specs.Prelude.{◌≡◌, length};
 ghost use Rattle.code.specs.Instructions.{writing, word_of};
 ghost use Rattle.a400.specs.Calls.{Answers};

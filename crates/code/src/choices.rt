@@ -50,7 +50,7 @@ pub fn shift_number(code: ShiftCode) -> u16
     code as u16
 }
 
-// From a number to the choice that has it.
+// From a number to the choice that has it. None of these can fail, so they are no `TryFrom`.
 
 // By bits 14 to 11. A number below AND's, which no memory reference has, gives AND.
 pub fn operation_at(n: u16) -> Operation
