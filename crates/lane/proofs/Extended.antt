@@ -182,7 +182,7 @@ same_places kind w r = rw (again w)
 ---- A code that has no address word
 
 module _ (r : Registers) where
-  told : {word k : ℕ} (x : Extended) → word ≡ k → reading k ≡ Instruction.Extended x → rule (reading word) r ≡ act (extended_action x) r
+  pub told : {word k : ℕ} (x : Extended) → word ≡ k → reading k ≡ Instruction.Extended x → rule (reading word) r ≡ act (extended_action x) r
   told x e g = rw (e, g)
 
   pub copied_to : (g : Register) (i : Index) {word : ℕ} {s : Registers} → word ≡ transfer_word Cax g i → s ≡ copied_to_index g i r
@@ -205,10 +205,9 @@ module _ (r : Registers) where
       → (pages m : List ℕ) → exec pages (rule (reading word) r) r m ≡ done s m
   down i e h pages m = rw (told (Extended.Indexing Dsx i) e (read_indexing Dsx i)) (finished pages m r (index_stepped i (decremented (in_index i r)).word) m h)
 
-  pub rotating : (kind : LongShift) (word : ℕ) {s : Registers} → word / 16 ≡ long_at kind → s ≡ long_rotated kind word r
+  pub rotating : (kind : LongShift) (word : ℕ) {s : Registers} → reading word ≡ Instruction.LongShift kind (places word) → s ≡ long_rotated kind word r
       → (pages m : List ℕ) → exec pages (rule (reading word) r) r m ≡ done s m
-  rotating kind word e h pages m =
-      rw (read_long kind word e) (finished pages m r (long_rotated kind (places word)) m (h ∙ same_places kind word r))
+  rotating kind word e h pages m = rw e (finished pages m r (long_rotated kind (places word)) m (h ∙ same_places kind word r))
 
 ---- A code that has an address word
 

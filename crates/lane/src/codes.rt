@@ -1,23 +1,20 @@
 // The extended codes of the lane, told by the word. A skip is a branch, so that the next fetch need not wait for the register.
-ghost use Rattle.std.specs.Prelude.{◌≡◌, List, ℕ};
-ghost use Rattle.word.specs.Sums.{address};
-ghost use Rattle.code.specs.Instructions.{reading};
-ghost use Rattle.acts.specs.Acts.{load, save, fin, go_on};
-ghost use Rattle.effects.specs.Group.{index_stepped, long_rotated};
-ghost use Rattle.effects.specs.Ways.{taken, addressed as addressedBy};
+ghost use Rattle.std.specs.Prelude.{◌≡◌, List, ℕ, IfSome};
+ghost use Rattle.code.specs.Instructions.{places, reading};
+ghost use Rattle.code.specs.declared.instructions.Instruction.{Instruction};
+ghost use Rattle.effects.specs.Group.{index_stepped};
 ghost use Rattle.rules.specs.Rules.{rule};
 ghost use Rattle.lane.specs.Lane.{Tried};
-ghost use Rattle.lane.specs.Asking.{Goes, Finishes};
+ghost use Rattle.lane.specs.Asking.{Goes};
 
 use crate::references::{lead, put};
 use acts::record::Registers;
 use code::codes::{Index, Register};
 use effects::group::{copy_from_index, copy_to_index, exchange, long_rotate};
-use effects::ways::{Addressing, Source, Taking, set_flags, take_product, take_quotient};
+use effects::ways::{Addressing, Source, Taking};
 use maps::pages::Map;
 use word::long::LongShift;
-use word::products::{divide, multiply};
-use word::sums::{add, decrement, increment, past};
+use word::sums::{decrement, increment, past};
 
 // ISX, DSX, ISY and DSY, whose register becomes w.
 fn step(i: Index, w: u16, r: Registers) -> Registers
@@ -27,19 +24,19 @@ fn step(i: Index, w: u16, r: Registers) -> Registers
     if w == 0 { s.ahead(2) } else { s.ahead(1) }
 }
 
-// The long shifts. The places are in their low four bits.
-fn shift_long(word: u16, r: Registers) -> Option<Registers>
-    ensures { (pages m : List ℕ) → Tried pages (rule (reading word) r) r m result m }
+// The long shift of a word. Its places are in the low four bits.
+fn long_shift_of(word: u16) -> Option<LongShift>
+    ensures { IfSome result (λ kind. reading word ≡ Instruction.LongShift kind (places word)) }
 {
-    Some(match word / 16 {
-        0o4001 => long_rotate(LongShift::Asl, word, r),
-        0o4002 => long_rotate(LongShift::Lsl, word, r),
-        0o4004 => long_rotate(LongShift::Rrl, word, r),
-        0o4041 => long_rotate(LongShift::Asr, word, r),
-        0o4042 => long_rotate(LongShift::Lsr, word, r),
-        0o4044 => long_rotate(LongShift::Rrr, word, r),
-        _ => return None,
-    })
+    match word / 16 {
+        0o4001 => Some(LongShift::Asl),
+        0o4002 => Some(LongShift::Lsl),
+        0o4004 => Some(LongShift::Rrl),
+        0o4041 => Some(LongShift::Asr),
+        0o4042 => Some(LongShift::Lsr),
+        0o4044 => Some(LongShift::Rrr),
+        _ => None,
+    }
 }
 
 // The codes that have no address word.
@@ -63,34 +60,8 @@ fn alone(word: u16, r: Registers) -> Option<Registers>
         0o105761 => step(Index::X, decrement(r.x).word, r),
         0o105770 => step(Index::Y, increment(r.y).word, r),
         0o105771 => step(Index::Y, decrement(r.y).word, r),
-        _ => return shift_long(word, r),
+        _ => long_rotate(long_shift_of(word)?, word, r),
     })
-}
-
-// The registers after a word was read, by the codes below.
-fn finish(taking: Taking, v: u16, r: Registers) -> Option<Registers>
-    ensures { Finishes taking v r result }
-{
-    Some(match taking {
-        Taking::Multiply => take_product(multiply(r.a, v), r),
-        Taking::Divide => take_quotient(divide(r.b, r.a, v), r),
-        Taking::Load(g) => r.with_register(g, v),
-        Taking::LoadIndex(i) => r.with_index(i, v),
-        Taking::AddIndex(i) => {
-            let t = add(r.index(i), v);
-            set_flags(t, r).with_index(i, t.word)
-        }
-        _ => return None,
-    }
-    .ahead(2))
-}
-
-// The word at an address is read, and the registers follow.
-fn take(taking: Taking, at: u16, r: Registers, pages: &[u16], memory: &[u16]) -> Option<Registers>
-    ensures { Tried pages.now (load Map.Execute at (λ v. fin (taken taking v 2))) r memory.now result memory.now }
-{
-    let v = r.read(Map::Execute, at, pages, memory).ok()?;
-    finish(taking, v, r)
 }
 
 // What a code with an address word does there. The map is Execute.
@@ -133,7 +104,9 @@ fn addressed(word: u16, r: Registers, pages: &[u16], memory: &mut [u16]) -> Opti
     let to = lead(from, r, pages, memory)?;
     match asks(word)? {
         Asked::Take(taking, addressing) => {
-            take(taking, addressing.address(to, r), r, pages, memory)
+            let at = addressing.address(to, r);
+            let v = r.read(Map::Execute, at, pages, memory).ok()?;
+            Some(taking.apply(v, 2, r))
         }
         Asked::Put(source, addressing) => {
             let at = addressing.address(to, r);

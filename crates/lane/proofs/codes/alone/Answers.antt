@@ -1,7 +1,7 @@
 -- `codes::alone` meets its contract: each arm is a code whose rule the law of its kind completes. Assumes nothing.
 use Rattle.code.specs.declared.codes.Register.TheVariants.{A, B}
 use Rattle.code.specs.declared.codes.Index.TheVariants.{X, Y}
-use Rattle.lane.proofs.Extended.{copied_to, copied_from, exchanging, up, down}
+use Rattle.lane.proofs.Extended.{copied_to, copied_from, exchanging, up, down, rotating}
 use Rattle.lane.proofs.codes.alone.Goals as goal
 
 pub returns-in-33761 : goal.returns-in-33761
@@ -52,5 +52,5 @@ returns-in-35832 c = up _ Y c.in-35832.is (rw c.increment-in-35832.ensures at c.
 pub returns-in-35833 : goal.returns-in-35833
 returns-in-35833 c = down _ Y c.in-35833.is (rw c.decrement-in-35833.ensures at c.step-in-35833.ensures)
 
-pub returns-in_default : goal.returns-in_default
-returns-in_default c = c.shift_long.ensures
+pub returns-in_ok-long_shift_of-in_default : goal.returns-in_ok-long_shift_of-in_default
+returns-in_ok-long_shift_of-in_default c = rotating c.args.r _ c.args.word c.in_ok-long_shift_of-in_default.ensures c.long_rotate.ensures
