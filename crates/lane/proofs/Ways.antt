@@ -4,6 +4,7 @@
 --     taking, putting, stepping, jumping    a way that completes
 --     step_at, tried              a step, by what its word asks for
 --     clear, asking, near, direct, once    an address word that leads on by no level, or by one
+--     finished_by                 a code of one address word that reads
 --     carrying                    a step of a memory reference, or of a word of shift/rotate or alter/skip
 -- Assumes nothing.
 use Prim.Native.Nat.{ℕ, ◌+◌, ◌/◌, ◌%◌, ◌<◌, ◌≤◌}
@@ -33,7 +34,7 @@ use Rattle.effects.specs.declared.ways.Taking.{Taking}
 use Rattle.effects.specs.declared.ways.Way.TheVariants.{StepAndSkip}
 use Rattle.rules.specs.Rules.{memory_word, rule, step_act}
 use Rattle.lane.specs.Lane.{Tried, Led, carried}
-use Rattle.std.specs.Prelude.{Option, Some, None, Result, Ok, Err}
+use Rattle.std.specs.Prelude.{Option, Some, None, IfSome, Result, Ok, Err}
 use Rattle.std.specs.Result.{result_ok}
 use Rattle.maps.specs.declared.troubles.Trouble.{Trouble}
 
@@ -123,6 +124,13 @@ module _ (pages m : List ℕ) (r : Registers) where
       go : (b : Bool) → leb 2 (w / 0o4000 % 16) ≡ b → exec pages (rule (reading w) r) r m ≡ exec pages (carried w at r) r m
       go true h = rw (reading, h, memory_reference, led) refl
       go false h = rw (reading, h, clear w (few (omega (arith, leb-false 2 (w / 0o4000 % 16) h)))) refl
+
+-- a word that was read, and what the codes of one address word make of it
+pub finished_by : (pages m : List ℕ) (r : Registers) (t : Taking) (at : ℕ) {v : ℕ} {f : Result ℕ Trouble} (w : Option Registers)
+    → f ≡ fetched pages m r.wmap Map.Execute at r.a r.b → Some v ≡ result_ok f → IfSome w (λ s. s ≡ taken t v 2 r)
+    → Tried pages (load Map.Execute at (λ x. fin (taken t x 2))) r m w m
+finished_by pages m r t at (Some s) e g h = taking pages m r t at 2 e g h
+finished_by pages m r t at None e g h = refl
 
 ---- Bits
 

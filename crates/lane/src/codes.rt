@@ -3,6 +3,7 @@ ghost use Rattle.std.specs.Prelude.{◌≡◌, List, ℕ, IfSome};
 ghost use Rattle.code.specs.Instructions.{places, reading};
 ghost use Rattle.code.specs.declared.instructions.Instruction.{Instruction};
 ghost use Rattle.effects.specs.Group.{index_stepped};
+ghost use Rattle.effects.specs.Ways.{taken};
 ghost use Rattle.rules.specs.Rules.{rule};
 ghost use Rattle.lane.specs.Lane.{Tried};
 ghost use Rattle.lane.specs.Asking.{Goes};
@@ -11,10 +12,11 @@ use crate::references::{lead, put};
 use acts::record::Registers;
 use code::codes::{Index, Register};
 use effects::group::{copy_from_index, copy_to_index, exchange, long_rotate};
-use effects::ways::{Addressing, Source, Taking};
+use effects::ways::{Addressing, Source, Taking, set_flags, take_product, take_quotient};
 use maps::pages::Map;
 use word::long::LongShift;
-use word::sums::{decrement, increment, past};
+use word::products::{divide, multiply};
+use word::sums::{add, decrement, increment, past};
 
 // ISX, DSX, ISY and DSY, whose register becomes w.
 fn step(i: Index, w: u16, r: Registers) -> Registers
@@ -64,6 +66,25 @@ fn alone(word: u16, r: Registers) -> Option<Registers>
     })
 }
 
+// The registers after a word was read, by the codes below: what `apply` gives, in arms of its own, as the call of `apply` would not be
+// inlined here, and the record would then lie in memory at every step.
+fn finish(taking: Taking, v: u16, r: Registers) -> Option<Registers>
+    ensures { IfSome result (λ s. s ≡ taken taking v 2 r) }
+{
+    Some(match taking {
+        Taking::Multiply => take_product(multiply(r.a, v), r),
+        Taking::Divide => take_quotient(divide(r.b, r.a, v), r),
+        Taking::Load(g) => r.with_register(g, v),
+        Taking::LoadIndex(i) => r.with_index(i, v),
+        Taking::AddIndex(i) => {
+            let t = add(r.index(i), v);
+            set_flags(t, r).with_index(i, t.word)
+        }
+        _ => return None,
+    }
+    .ahead(2))
+}
+
 // What a code with an address word does there. The map is Execute.
 #[derive(Clone, Copy, Debug, PartialEq, Eq)]
 pub enum Asked {
@@ -106,7 +127,7 @@ fn addressed(word: u16, r: Registers, pages: &[u16], memory: &mut [u16]) -> Opti
         Asked::Take(taking, addressing) => {
             let at = addressing.address(to, r);
             let v = r.read(Map::Execute, at, pages, memory).ok()?;
-            Some(taking.apply(v, 2, r))
+            finish(taking, v, r)
         }
         Asked::Put(source, addressing) => {
             let at = addressing.address(to, r);
