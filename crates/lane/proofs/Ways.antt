@@ -1,7 +1,7 @@
 -- How a way at an address, and a step, is completed: each law once, so that an arm's proof cites one.
 --     gave, below                 what an access gave that a function goes on with
 --     loaded, placed, finished    one access that succeeds; the end
---     taking, putting, stepping, jumping    a way that completes
+--     taking, comparing, putting, stepping    a way that completes
 --     step_at, tried              a step, by what its word asks for
 --     clear, asking, near, direct, once    an address word that leads on by no level, or by one
 --     finished_by                 a code of one address word that reads
@@ -26,7 +26,8 @@ use Rattle.maps.specs.declared.pages.Map.{Map}
 use Rattle.maps.specs.declared.pages.Purpose.{Purpose}
 use Rattle.maps.specs.declared.pages.Place.{Place}
 use Rattle.code.specs.Instructions.{memory_reference, reading}
-use Rattle.acts.specs.Record.{with_p}
+use Rattle.code.specs.declared.codes.Register.{Register}
+use Rattle.acts.specs.Record.{in_register, with_p, ahead}
 use Rattle.acts.specs.Acts.{Act, fin, load, save, go_on, done, exec}
 use Rattle.acts.specs.declared.record.Registers.{Registers}
 use Rattle.effects.specs.Ways.{taken, way_act}
@@ -69,6 +70,11 @@ module _ (pages m : List ℕ) (r : Registers) where
   pub taking : (t : Taking) (at words : ℕ) {v : ℕ} {f : Result ℕ Trouble} {s : Registers} → f ≡ fetched pages m r.wmap Map.Execute at r.a r.b
       → Some v ≡ result_ok f → s ≡ taken t v words r → exec pages (load Map.Execute at (λ w. fin (taken t w words))) r m ≡ done s m
   taking t at words {v} e g h = loaded at (λ w. fin (taken t w words)) e g ∙ finished (taken t v words) m h
+
+  pub comparing : (g : Register) (at : ℕ) {v q : ℕ} {f : Result ℕ Trouble} {s : Registers} → f ≡ fetched pages m r.wmap Map.Execute at r.a r.b
+      → Some v ≡ result_ok f → 1 + weight (not (eqb (in_register g r) v)) ≡ q → s ≡ ahead q r
+      → exec pages (load Map.Execute at (λ w. fin (taken (Taking.Compare g) w 1))) r m ≡ done s m
+  comparing g at e o z h = taking (Taking.Compare g) at 1 e o (h ∙ ap (λ (n : ℕ). ahead n r) (sym z))
 
   pub putting : (at v q : ℕ) {n : List ℕ} {s : Registers} → exec pages (save Map.Execute at v (go_on q)) r m ≡ exec pages (go_on q) r n → s ≡ with_p r q
       → exec pages (save Map.Execute at v (go_on q)) r m ≡ done s n

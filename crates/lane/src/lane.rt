@@ -13,6 +13,7 @@ use maps::pages::Map;
 use word::sums::past;
 
 // A memory reference at its address, or a word of shift/rotate or alter/skip. One match, so that there is one dispatch.
+// The skips of ISZ, CPA and CPB are branches here: in a function of its own a skip would become a sum, for which the next fetch waits.
 fn carry(word: u16, at: u16, r: Registers, pages: &[u16], memory: &mut [u16]) -> Option<Registers>
     ensures { Tried pages.now (carried word at r) r memory.old result memory.new }
 {
@@ -36,7 +37,6 @@ fn carry(word: u16, at: u16, r: Registers, pages: &[u16], memory: &mut [u16]) ->
         4 => take(Taking::Xor, at, r, pages, memory),
         5 => Some(r.at(at)),
         6 => take(Taking::Ior, at, r, pages, memory),
-        // The skip is here and not in `step`: there its two ends would be joined as a sum, and the next fetch would wait for the word.
         7 => {
             let stepped = step(at, r, pages, memory)?;
             if stepped == 0 {
@@ -47,8 +47,22 @@ fn carry(word: u16, at: u16, r: Registers, pages: &[u16], memory: &mut [u16]) ->
         }
         8 => take(Taking::Add(Register::A), at, r, pages, memory),
         9 => take(Taking::Add(Register::B), at, r, pages, memory),
-        10 => take(Taking::Compare(Register::A), at, r, pages, memory),
-        11 => take(Taking::Compare(Register::B), at, r, pages, memory),
+        10 => {
+            let v = r.read(Map::Execute, at, pages, memory).ok()?;
+            if r.a == v {
+                Some(r.ahead(1))
+            } else {
+                Some(r.ahead(2))
+            }
+        }
+        11 => {
+            let v = r.read(Map::Execute, at, pages, memory).ok()?;
+            if r.b == v {
+                Some(r.ahead(1))
+            } else {
+                Some(r.ahead(2))
+            }
+        }
         12 => take(Taking::Load(Register::A), at, r, pages, memory),
         13 => take(Taking::Load(Register::B), at, r, pages, memory),
         14 => put(r.a, at, past(r.p, 1), r, pages, memory),

@@ -3,12 +3,11 @@ ghost use Rattle.std.specs.Prelude.{◌≡◌, ◌/◌, ◌%◌};
 ghost use Rattle.word.specs.Words.{bit};
 ghost use Rattle.maps.specs.declared.pages.Map.TheVariants.{Execute};
 ghost use Rattle.acts.specs.Acts.{load, save, fin, go_on};
-ghost use Rattle.effects.specs.Ways.{taken as takenBy};
+ghost use Rattle.effects.specs.Ways.{taken};
 ghost use Rattle.rules.specs.Rules.{memory_word};
 ghost use Rattle.lane.specs.Lane.{Tried, Led, Keeps, Steps};
 
 use acts::record::Registers;
-use code::codes::Register;
 use effects::ways::Taking;
 use maps::pages::{Map, Maps, Place, Purpose};
 use rules::memory::memory_word;
@@ -41,22 +40,7 @@ pub(crate) fn reach(word: u16, r: Registers, pages: &[u16], memory: &[u16]) -> O
     lead(memory_word(true, current, offset, r.p), r, pages, memory)
 }
 
-// What a memory reference that reads does with the word at its address.
-fn taken(taking: Taking, v: u16, r: Registers) -> Registers
-    ensures { result ≡ takenBy taking v 1 r }
-{
-    match taking {
-        Taking::Compare(g) => {
-            if r.register(g) == v {
-                r.ahead(1)
-            } else {
-                r.ahead(2)
-            }
-        }
-        _ => taking.apply(v, 1, r),
-    }
-}
-
+// The word at an address is read, and the registers follow.
 pub(crate) fn take(
     taking: Taking,
     at: u16,
@@ -64,10 +48,10 @@ pub(crate) fn take(
     pages: &[u16],
     memory: &[u16],
 ) -> Option<Registers>
-    ensures { Tried pages.now (load Execute at (λ v. fin (takenBy taking v 1))) r memory.now result memory.now }
+    ensures { Tried pages.now (load Execute at (λ v. fin (taken taking v 1))) r memory.now result memory.now }
 {
     let v = r.read(Map::Execute, at, pages, memory).ok()?;
-    Some(taken(taking, v, r))
+    Some(taking.apply(v, 1, r))
 }
 
 // A word is stored in memory. One that goes to A or B is left.

@@ -1,13 +1,14 @@
 -- `lane::carry` meets its contract. Assumes nothing.
 use Prim.Native.Nat.{ℕ, ◌/◌, ◌%◌, ◌≤◌, ◌<◌}
-use mathlib.Core.Path.{◌≡◌}
+use mathlib.Core.Path.{◌≡◌, refl}
 use native.Mathlib.Omega.{arith}
 use borrow.Author.Tests.{eq-eqb, ne_eqb}
 use Rattle.code.specs.Instructions.{shift_rotate, alter_skip}
+use Rattle.code.specs.declared.codes.Register.TheVariants.{A, B}
 use Rattle.acts.specs.Record.{with_p}
 use Rattle.effects.specs.Group.{shift_rotated, alter_skipped}
 use Rattle.lane.specs.Lane.{carried}
-use Rattle.lane.proofs.Ways.{finished}
+use Rattle.lane.proofs.Ways.{finished, comparing}
 use Rattle.lane.proofs.lane.carry.Goals as goal
 
 fifteen : (n : ℕ) → 15 ≤ n → n < 16 → n ≡ 15
@@ -65,13 +66,29 @@ pub returns-in-9 : goal.returns-in-9
 unfolding carried
 returns-in-9 c = rw c.in-9.is c.take-in-9.ensures
 
-pub returns-in-10 : goal.returns-in-10
+pub returns-then-r-v : goal.returns-then-r-v
 unfolding carried
-returns-in-10 c = rw c.in-10.is c.take-in-10.ensures
+returns-then-r-v c =
+    let a = c.args in
+    rw c.in-10.is (comparing a.pages.now a.memory.now a.r A a.at c.read.ensures c.in_ok-v-in-10.ensures.value (rw (eq-eqb _ _ c.if-r-v.true) refl) c.ahead-then-r-v.ensures)
 
-pub returns-in-11 : goal.returns-in-11
+pub returns-else-r-v : goal.returns-else-r-v
 unfolding carried
-returns-in-11 c = rw c.in-11.is c.take-in-11.ensures
+returns-else-r-v c =
+    let a = c.args in
+    rw c.in-10.is (comparing a.pages.now a.memory.now a.r A a.at c.read.ensures c.in_ok-v-in-10.ensures.value (rw (ne_eqb _ _ c.if-r-v.false) refl) c.ahead-else-r-v.ensures)
+
+pub returns-then-r-v-2 : goal.returns-then-r-v-2
+unfolding carried
+returns-then-r-v-2 c =
+    let a = c.args in
+    rw c.in-11.is (comparing a.pages.now a.memory.now a.r B a.at c.read-in-11.ensures c.in_ok-v-in-11.ensures.value (rw (eq-eqb _ _ c.if-r-v-2.true) refl) c.ahead-then-r-v-2.ensures)
+
+pub returns-else-r-v-2 : goal.returns-else-r-v-2
+unfolding carried
+returns-else-r-v-2 c =
+    let a = c.args in
+    rw c.in-11.is (comparing a.pages.now a.memory.now a.r B a.at c.read-in-11.ensures c.in_ok-v-in-11.ensures.value (rw (ne_eqb _ _ c.if-r-v-2.false) refl) c.ahead-else-r-v-2.ensures)
 
 pub returns-in-12 : goal.returns-in-12
 unfolding carried
