@@ -1,8 +1,7 @@
-// The extended codes of the lane, told by the word. A skip is a branch, so that the next fetch need not wait for the register.
+// The extended codes of the lane, told by the word.
 ghost use Rattle.std.specs.Prelude.{◌≡◌, List, ℕ, IfSome};
 ghost use Rattle.code.specs.Instructions.{places, reading};
 ghost use Rattle.code.specs.declared.instructions.Instruction.{Instruction};
-ghost use Rattle.effects.specs.Group.{index_stepped};
 ghost use Rattle.effects.specs.Ways.{taken};
 ghost use Rattle.rules.specs.Rules.{rule};
 ghost use Rattle.lane.specs.Lane.{Tried};
@@ -11,20 +10,12 @@ ghost use Rattle.lane.specs.Asking.{Goes};
 use crate::references::{lead, put};
 use acts::record::Registers;
 use code::codes::{Index, Register};
-use effects::group::{copy_from_index, copy_to_index, exchange, long_rotate};
+use effects::group::{copy_from_index, copy_to_index, exchange, long_rotate, step_index};
 use effects::ways::{Addressing, Source, Taking, set_flags, take_product, take_quotient};
 use maps::pages::Map;
 use word::long::LongShift;
 use word::products::{divide, multiply};
 use word::sums::{add, decrement, increment, past};
-
-// ISX, DSX, ISY and DSY, whose register becomes w.
-fn step(i: Index, w: u16, r: Registers) -> Registers
-    ensures { result ≡ index_stepped i w r }
-{
-    let s = r.with_index(i, w);
-    if w == 0 { s.ahead(2) } else { s.ahead(1) }
-}
 
 // The long shift of a word. Its places are in the low four bits.
 fn long_shift_of(word: u16) -> Option<LongShift>
@@ -58,10 +49,10 @@ fn alone(word: u16, r: Registers) -> Option<Registers>
         0o101757 => exchange(Register::A, Index::Y, r),
         0o105747 => exchange(Register::B, Index::X, r),
         0o105757 => exchange(Register::B, Index::Y, r),
-        0o105760 => step(Index::X, increment(r.x).word, r),
-        0o105761 => step(Index::X, decrement(r.x).word, r),
-        0o105770 => step(Index::Y, increment(r.y).word, r),
-        0o105771 => step(Index::Y, decrement(r.y).word, r),
+        0o105760 => step_index(Index::X, increment(r.x).word, r),
+        0o105761 => step_index(Index::X, decrement(r.x).word, r),
+        0o105770 => step_index(Index::Y, increment(r.y).word, r),
+        0o105771 => step_index(Index::Y, decrement(r.y).word, r),
         _ => long_rotate(long_shift_of(word)?, word, r),
     })
 }

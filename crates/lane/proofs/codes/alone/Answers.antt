@@ -41,16 +41,16 @@ pub returns-in-35823 : goal.returns-in-35823
 returns-in-35823 c = exchanging _ B Y c.in-35823.is c.exchange-in-35823.ensures
 
 pub returns-in-35824 : goal.returns-in-35824
-returns-in-35824 c = up _ X c.in-35824.is (rw c.increment.ensures at c.step.ensures)
+returns-in-35824 c = up _ X c.in-35824.is (rw c.increment.ensures at c.step_index.ensures)
 
 pub returns-in-35825 : goal.returns-in-35825
-returns-in-35825 c = down _ X c.in-35825.is (rw c.decrement.ensures at c.step-in-35825.ensures)
+returns-in-35825 c = down _ X c.in-35825.is (rw c.decrement.ensures at c.step_index-in-35825.ensures)
 
 pub returns-in-35832 : goal.returns-in-35832
-returns-in-35832 c = up _ Y c.in-35832.is (rw c.increment-in-35832.ensures at c.step-in-35832.ensures)
+returns-in-35832 c = up _ Y c.in-35832.is (rw c.increment-in-35832.ensures at c.step_index-in-35832.ensures)
 
 pub returns-in-35833 : goal.returns-in-35833
-returns-in-35833 c = down _ Y c.in-35833.is (rw c.decrement-in-35833.ensures at c.step-in-35833.ensures)
+returns-in-35833 c = down _ Y c.in-35833.is (rw c.decrement-in-35833.ensures at c.step_index-in-35833.ensures)
 
 pub returns-in_ok-long_shift_of-in_default : goal.returns-in_ok-long_shift_of-in_default
 returns-in_ok-long_shift_of-in_default c = rotating c.args.r _ c.args.word c.in_ok-long_shift_of-in_default.ensures c.long_rotate.ensures
