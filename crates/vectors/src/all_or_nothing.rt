@@ -2,8 +2,7 @@
 // expected reply is that of the paper's table, in the order 5, 1, 4 of the rule of MVW, with every
 // word of memory as given. The last line is the same move with nothing in its way.
 use crate::state::{Memory, plain_pages, set_program};
-use acts::record::{Registers, fresh_record};
-use acts::replies::number_of;
+use acts::record::Registers;
 use std::{array, io};
 
 // Page 1 has `first` in its page register, page 2 `second`, page 31 names page 2.
@@ -119,11 +118,11 @@ impl Move {
             wmap: self.wmap,
             a: self.a,
             b: self.b,
-            ..fresh_record()
+            ..Registers::fresh()
         };
         let stepped = machine::step::step(registers, &mut pages, &mut memory);
         let label = self.label;
-        let reply = number_of(stepped.reply);
+        let reply = u32::from(stepped.reply);
         let change = if memory == before {
             "unchanged"
         } else {

@@ -5,8 +5,8 @@
 ghost use Rattle.std.specs.Prelude.{◌≤◌, ◌+◌};
 
 use crate::state::{Memory, plain_pages, set_program};
-use acts::record::{Registers, fresh_record};
-use acts::replies::{Stepped, number_of};
+use acts::record::Registers;
+use acts::replies::Stepped;
 use std::{array, io};
 
 const FIRST: u16 = 1000;
@@ -29,7 +29,7 @@ fn moved(code: u16, from: u16, n: u8, memory: &mut Memory) -> Stepped {
     let registers = Registers {
         a: from,
         b: from.wrapping_add(1),
-        ..fresh_record()
+        ..Registers::fresh()
     };
     machine::step::step(registers, &mut pages, memory)
 }
@@ -41,7 +41,7 @@ fn wrong_registers(s: Stepped, from: u16, n: u8) -> usize
     let end = from.wrapping_add(u16::from(n));
     let r = s.registers;
     let wrong = [
-        number_of(s.reply) != 0,
+        u32::from(s.reply) != 0,
         r.a != end,
         r.b != end.wrapping_add(1),
         r.p != 5,

@@ -1,7 +1,7 @@
 // What a vector starts from, and what it does.
 ghost use Rattle.std.specs.Prelude.{◌≤◌};
 
-use acts::record::{Registers, fresh_record};
+use acts::record::Registers;
 use std::array;
 
 // Memory, page registers and the record, and how many words of memory and page registers are lent.
@@ -28,7 +28,7 @@ impl Start {
         Start {
             memory: [0; 32768],
             pages: array::from_fn(|i| (i % 32) as u16),
-            registers: fresh_record(),
+            registers: Registers::fresh(),
             lent_words: 8192,
             lent_pages: 1024,
         }

@@ -2,7 +2,6 @@
 use crate::line::read;
 use crate::show::{Listed, print_changes};
 use crate::start::{Command, Start};
-use acts::replies::number_of;
 use octal::input::read_full;
 use std::io;
 use std::io::Input;
@@ -15,14 +14,14 @@ fn perform(rt: &impl Print, start: &Start, command: Command) -> io::Result<()> {
     match command {
         Command::Step => {
             let s = machine::step::step(start.registers, lent_pages, lent_words);
-            print!(rt; " {}{}", number_of(s.reply), Listed(s.registers))?;
+            print!(rt; " {}{}", u32::from(s.reply), Listed(s.registers))?;
         }
         Command::Run(budget) => {
             let s = machine::run::run(budget, start.registers, lent_pages, lent_words);
             let count = s.count;
             print!(rt;
                 " {} after {count}{}",
-                number_of(s.reply),
+                u32::from(s.reply),
                 Listed(s.registers)
             )?;
         }
