@@ -25,6 +25,7 @@ impl fmt::Display for Listing {
         let (p, a, b) = (Octal(r.p), Octal(r.a), Octal(r.b));
         let (e, o) = (Bit(r.e), Bit(r.o));
         writeln!(f, "answer steps P A B E O")?;
+        // two formats, since a proof does not follow one of so many pieces
         write!(f, "{answer} {count} {p} {a} {b}")?;
         writeln!(f, " {e} {o}")
     }

@@ -8,6 +8,7 @@ ghost use Rattle.octal.specs.Digits.{octal_digits, bit_digit};
 
 use std::fmt;
 
+// The bytes that an Octal prints.
 pub fn word_digits(w: u16) -> [u8; 6]
     ensures { result ≡ octal_digits w }
 {
@@ -21,6 +22,7 @@ pub fn word_digits(w: u16) -> [u8; 6]
     ]
 }
 
+// The byte that a Bit prints.
 pub fn bit_digit(b: bool) -> u8
     ensures { result ≡ bit_digit b }
 {
