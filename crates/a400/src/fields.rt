@@ -12,6 +12,9 @@ use code::instructions::{
 };
 use word::long::LongShift;
 
+// How many fields an instruction has.
+const FIELDS: usize = 10;
+
 // The long shifts and their numbers; the other choices are in `code`. A number past the last gives the last.
 
 fn long_number(shift: LongShift) -> u16
@@ -35,7 +38,7 @@ fn long_at(n: u16) -> LongShift
 
 // From an instruction to its fields.
 
-fn shift_rotate_fields(s: ShiftRotate) -> [u16; 10]
+fn shift_rotate_fields(s: ShiftRotate) -> [u16; FIELDS]
     ensures { result ≡ fields_of (Instruction.ShiftRotate s) }
 {
     [
@@ -52,7 +55,7 @@ fn shift_rotate_fields(s: ShiftRotate) -> [u16; 10]
     ]
 }
 
-fn alter_skip_fields(s: AlterSkip) -> [u16; 10]
+fn alter_skip_fields(s: AlterSkip) -> [u16; FIELDS]
     ensures { result ≡ fields_of (Instruction.AlterSkip s) }
 {
     [
@@ -75,7 +78,7 @@ fn code_word(code: Extended) -> u16
     write_instruction(Instruction::Extended(code)).unwrap_or(0)
 }
 
-fn fields_of(i: Instruction) -> [u16; 10]
+fn fields_of(i: Instruction) -> [u16; FIELDS]
     ensures { result ≡ fields_of i }
 {
     match i {
@@ -125,8 +128,7 @@ fn fields_of(i: Instruction) -> [u16; 10]
 
 // From fields to an instruction.
 
-fn shift_rotate_at(fields: &[u16]) -> ShiftRotate
-    requires { length fields.now ≡ 10 }
+fn shift_rotate_at(fields: &[u16; FIELDS]) -> ShiftRotate
     ensures { result ≡ shift_rotate_at fields.now }
 {
     ShiftRotate {
@@ -140,8 +142,7 @@ fn shift_rotate_at(fields: &[u16]) -> ShiftRotate
     }
 }
 
-fn alter_skip_at(fields: &[u16]) -> AlterSkip
-    requires { length fields.now ≡ 10 }
+fn alter_skip_at(fields: &[u16; FIELDS]) -> AlterSkip
     ensures { result ≡ alter_skip_at fields.now }
 {
     AlterSkip {
@@ -158,8 +159,7 @@ fn alter_skip_at(fields: &[u16]) -> AlterSkip
 }
 
 #[tactic(auto, unfolding(crate::specs::Unchecked::instruction_at))]
-fn instruction_at(fields: &[u16]) -> Instruction
-    requires { length fields.now ≡ 10 }
+fn instruction_at(fields: &[u16; FIELDS]) -> Instruction
     ensures { result ≡ instruction_at fields.now }
 {
     let first = fields[1];
@@ -187,13 +187,12 @@ fn instruction_at(fields: &[u16]) -> Instruction
 }
 
 // An instruction is taken from the fields whatever they are. Where it has other fields, no word reads as these.
-fn write_fields(fields: &[u16]) -> Option<u16>
-    requires { length fields.now ≡ 10 }
+fn write_fields(fields: &[u16; FIELDS]) -> Option<u16>
     ensures { result ≡ writing_fields fields.now }
 {
     let instruction = instruction_at(fields);
     let again = fields_of(instruction);
-    if fields == again.as_slice() {
+    if *fields == again {
         return write_instruction(instruction);
     }
     None
@@ -204,7 +203,7 @@ fn write_fields(fields: &[u16]) -> Option<u16>
 pub extern "C" fn a400_read(word: u16, fields: &mut [u16]) -> u32
     ensures { Answers (read_call word fields.old) result fields.new }
 {
-    if fields.len() != 10 {
+    if fields.len() != FIELDS {
         return 8;
     }
     fields.copy_from_slice(&fields_of(read_instruction(word)));
@@ -216,9 +215,9 @@ pub extern "C" fn a400_read(word: u16, fields: &mut [u16]) -> u32
 pub extern "C" fn a400_write(fields: &[u16], word: &mut [u16]) -> u32
     ensures { Answers (write_call fields.now word.old) result word.new }
 {
-    if fields.len() != 10 {
+    let Ok(fields) = <&[u16; FIELDS]>::try_from(fields) else {
         return 8;
-    }
+    };
     if word.len() != 1 {
         return 8;
     }

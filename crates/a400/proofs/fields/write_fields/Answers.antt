@@ -10,9 +10,9 @@ pub returns-then-eq : goal.returns-then-eq
 returns-then-eq c =
     c.write_instruction.ensures
     ∙ wrote c.args.fields.now _ _ c.instruction_at-instruction.ensures c.fields_of-again.ensures
-    ((slice_eq-Decides Decides-eqb _ _ _ c.eq.ensures).0 c.if-eq.true ∙ c.as_slice.ensures)
+    ((slice_eq-Decides Decides-eqb _ _ _ c.eq.ensures).0 c.if-eq.true)
 
 pub returns : goal.returns
 returns c =
     unwritten c.args.fields.now _ _ c.instruction_at-instruction.ensures c.fields_of-again.ensures
-    (λ e. never (sym ((slice_eq-Decides Decides-eqb _ _ _ c.eq.ensures).1 (e ∙ sym c.as_slice.ensures)) ∙ c.if-eq.false))
+    (λ e. never (sym ((slice_eq-Decides Decides-eqb _ _ _ c.eq.ensures).1 e) ∙ c.if-eq.false))
