@@ -1,10 +1,9 @@
 -- The extended codes of the lane: the word of each, and how its rule is completed.
 --     transfer_word, indexing_word, arithmetic_word, long_at    the words, of a long shift without its places
 --     read_transfer, read_indexing, read_arithmetic, read_long      that each reads as its code
+--     told                                              the rule of a word that reads as a code
 --     copied_to, copied_from, exchanging, up, down, rotating        a code that has no address word
 --     arrived                                           where the address word of a code leads
---     takes, takes_both                                 what is read there
---     by_arithmetic, by_sax, by_lax, by_stx, by_ldx, by_adx     a code that has one
 -- Assumes nothing.
 use Prim.Native.Nat.{ℕ, ◌+◌, ◌/◌, ◌%◌, ◌≤◌}
 use native.Mathlib.Omega.{arith}

@@ -57,12 +57,12 @@ fn alone(word: u16, r: Registers) -> Option<Registers>
     })
 }
 
-// The registers after a word was read, by the codes below: what `apply` gives, in arms of its own, as the call of `apply` would not be
+// The registers after a word was read, by the codes below: what `apply` gives, in arms of its own, as a call of `apply` would not be
 // inlined here, and the record would then lie in memory at every step.
 fn finish(taking: Taking, v: u16, r: Registers) -> Option<Registers>
     ensures { IfSome result (λ s. s ≡ taken taking v 2 r) }
 {
-    Some(match taking {
+    let s = match taking {
         Taking::Multiply => take_product(multiply(r.a, v), r),
         Taking::Divide => take_quotient(divide(r.b, r.a, v), r),
         Taking::Load(g) => r.with_register(g, v),
@@ -72,8 +72,8 @@ fn finish(taking: Taking, v: u16, r: Registers) -> Option<Registers>
             set_flags(t, r).with_index(i, t.word)
         }
         _ => return None,
-    }
-    .ahead(2))
+    };
+    Some(s.ahead(2))
 }
 
 // What a code with an address word does there. The map is Execute.

@@ -1,5 +1,5 @@
-// Shift/rotate and alter/skip of A or B, by the parts that the general step has. The register is told apart from the word, so that
-// the machine code of each is its own, and a skip is a branch, so that the next fetch need not wait for the register.
+// Shift/rotate and alter/skip of A or B, by the parts that the general step has. The register is a constant where they are called, and
+// they are inlined there, so that the machine code of each register is its own. A skip is a branch here, and a sum in the general step.
 ghost use Rattle.std.specs.Prelude.{◌≡◌, ◌/◌, ◌%◌};
 ghost use Rattle.code.specs.Instructions.{register_at, shift_fields, alter_fields};
 ghost use Rattle.effects.specs.Group.{shift_rotated, alter_skipped};

@@ -14,6 +14,7 @@ use word::sums::past;
 
 // A memory reference at its address, or a word of shift/rotate or alter/skip. One match, so that there is one dispatch.
 // The skips of ISZ, CPA and CPB are branches here: in a function of its own a skip would become a sum, for which the next fetch waits.
+#[tactic(auto, using(crate::proofs::Ways::finished), unfolding(crate::specs::Lane::carried))]
 fn carry(word: u16, at: u16, r: Registers, pages: &[u16], memory: &mut [u16]) -> Option<Registers>
     ensures { Tried pages.now (carried word at r) r memory.old result memory.new }
 {

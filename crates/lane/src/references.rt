@@ -1,4 +1,4 @@
-// Memory references: the address, and what is done there. A skip is a branch, so that the next fetch need not wait for the word.
+// Memory references: the address, and what is done there but for the skips.
 ghost use Rattle.std.specs.Prelude.{◌≡◌, ◌/◌, ◌%◌};
 ghost use Rattle.word.specs.Words.{bit};
 ghost use Rattle.maps.specs.declared.pages.Map.TheVariants.{Execute};
@@ -55,6 +55,7 @@ pub(crate) fn take(
 }
 
 // A word is stored in memory. One that goes to A or B is left.
+#[tactic(auto, using(crate::proofs::Ways::below, crate::proofs::Ways::placed))]
 fn store(value: u16, at: u16, wmap: u16, pages: &[u16], memory: &mut [u16]) -> Option<()>
     ensures { Keeps pages.now wmap at value memory.old result memory.new }
 {
