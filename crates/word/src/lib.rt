@@ -3,6 +3,7 @@
 #![tactic(auto)]
 
 pub mod bits;
+mod count;
 pub mod long;
 pub mod orders;
 pub mod products;

@@ -1,7 +1,8 @@
 // The long shifts of B,A.
-ghost use Rattle.std.specs.Prelude.{◌≡◌, ◌<◌, ◌≤◌};
-ghost use Rattle.word.specs.Long.{places, moved, loses, overflowed, long_shifted};
+ghost use Rattle.std.specs.Prelude.{◌≡◌};
+ghost use Rattle.word.specs.Long.{moved, loses, overflowed, long_shifted};
 
+use crate::count::Places;
 use crate::values::{double_bits, double_value, join, split};
 
 #[derive(Clone, Copy, Debug, PartialEq, Eq)]
@@ -21,23 +22,12 @@ pub struct Long {
     pub o: bool,
 }
 
-// The low four bits, where 0 means 16.
-fn places_of(n: u16) -> u32
-    ensures { result ≡ places n }
-{
-    match n % 16 {
-        0 => 16,
-        places => u32::from(places),
-    }
-}
-
-// The double word after n places.
+// The double word after so many places.
 #[tactic(auto, unfolding(crate::specs::Long::moved))]
-fn shifted(kind: LongShift, n: u32, d: u32) -> u32
-    requires some { 0 < n }
-    requires few { n ≤ 16 }
-    ensures { result ≡ moved kind n d }
+fn shifted(kind: LongShift, places: Places, d: u32) -> u32
+    ensures { result ≡ moved kind places.count d }
 {
+    let n = places.count;
     match kind {
         LongShift::Asl => d & 0x8000_0000 | d << n & 0x7fff_ffff,
         LongShift::Lsl => d << n,
@@ -50,21 +40,20 @@ fn shifted(kind: LongShift, n: u32, d: u32) -> u32
 
 // Whether ASL by n places loses a bit other than the sign.
 #[tactic(auto, unfolding(crate::specs::Long::loses))]
-fn loses(n: u32, d: u32) -> bool
-    requires { n ≤ 16 }
-    ensures { result ≡ loses n d }
+fn loses(places: Places, d: u32) -> bool
+    ensures { result ≡ loses places.count d }
 {
+    let n = places.count;
     let lost = (d & 0x7fff_ffff) >> (31 - n);
     lost != (d >> 31) * ((1 << n) - 1)
 }
 
-// O after n places.
-fn overflow(kind: LongShift, n: u32, d: u32, o: bool) -> bool
-    requires { n ≤ 16 }
-    ensures { result ≡ overflowed kind n d o }
+// O after so many places.
+fn overflow(kind: LongShift, places: Places, d: u32, o: bool) -> bool
+    ensures { result ≡ overflowed kind places.count d o }
 {
     match kind {
-        LongShift::Asl => loses(n, d),
+        LongShift::Asl => loses(places, d),
         LongShift::Asr => false,
         LongShift::Lsl | LongShift::Rrl | LongShift::Lsr | LongShift::Rrr => o,
     }
@@ -73,12 +62,12 @@ fn overflow(kind: LongShift, n: u32, d: u32, o: bool) -> bool
 pub fn long_shift(kind: LongShift, n: u16, b: u16, a: u16, o: bool) -> Long
     ensures { result ≡ long_shifted kind n b a o }
 {
-    let count = places_of(n);
+    let places = Places::of(n);
     let d = join(b, a);
-    let (b, a) = split(shifted(kind, count, d));
+    let (b, a) = split(shifted(kind, places, d));
     Long {
         b,
         a,
-        o: overflow(kind, count, d, o),
+        o: overflow(kind, places, d, o),
     }
 }
