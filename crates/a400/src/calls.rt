@@ -2,6 +2,7 @@
 ghost use Rattle.std.specs.Prelude.{◌≡◌, [], ◌∷◌};
 ghost use Rattle.a400.specs.Calls.{fresh_call, step_call, run_call, Answers, Calls, RunCalls};
 
+use crate::BAD_CALL;
 use crate::record::write_record;
 use acts::record::{RECORD_WORDS, Registers};
 use machine::run::run;
@@ -12,7 +13,7 @@ pub extern "C" fn a400_fresh(words: &mut [u16]) -> u32
     ensures { Answers (fresh_call words.old) result words.new }
 {
     if words.len() != RECORD_WORDS {
-        return 8;
+        return BAD_CALL;
     }
     write_record(Registers::fresh(), words);
     0
@@ -31,7 +32,10 @@ fn call(words: &mut [u16], pages: &mut [u16], memory: &mut [u16], budget: u32) -
     ensures { RunCalls (run_call words.old pages.old memory.old budget (0 ∷ [])) pages.old result.reply words.new pages.new memory.new (result.count ∷ []) }
 {
     let Some(r) = Registers::from_words(words) else {
-        return Made { reply: 8, count: 0 };
+        return Made {
+            reply: BAD_CALL,
+            count: 0,
+        };
     };
     let ran = run(budget, r, pages, memory);
     write_record(ran.registers, words);
@@ -60,7 +64,7 @@ pub extern "C" fn a400_run(
     ensures { RunCalls (run_call words.old pages.old memory.old budget count.old) pages.old result words.new pages.new memory.new count.new }
 {
     if count.len() != 1 {
-        return 8;
+        return BAD_CALL;
     }
     let made = call(words, pages, memory, budget);
     count[0] = made.count;

@@ -5,6 +5,7 @@ ghost use Rattle.a400.specs.Calls.{Answers};
 ghost use Rattle.a400.specs.Fields.{long_kind, fields_of, writing_fields, read_call, write_call};
 ghost use Rattle.a400.specs.Unchecked.{long_at, shift_rotate_at, alter_skip_at, instruction_at};
 
+use crate::{BAD_CALL, NO_WORD};
 use code::choices::{alter_at, io_at, operation_at, register_at, shift_at, shift_number};
 use code::codes::Extended;
 use code::instructions::{
@@ -204,7 +205,7 @@ pub extern "C" fn a400_read(word: u16, fields: &mut [u16]) -> u32
     ensures { Answers (read_call word fields.old) result fields.new }
 {
     if fields.len() != FIELDS {
-        return 8;
+        return BAD_CALL;
     }
     fields.copy_from_slice(&fields_of(read_instruction(word)));
     0
@@ -216,10 +217,10 @@ pub extern "C" fn a400_write(fields: &[u16], word: &mut [u16]) -> u32
     ensures { Answers (write_call fields.now word.old) result word.new }
 {
     let Ok(fields) = <&[u16; FIELDS]>::try_from(fields) else {
-        return 8;
+        return BAD_CALL;
     };
     if word.len() != 1 {
-        return 8;
+        return BAD_CALL;
     }
     match write_fields(fields) {
         Some(w) => {
@@ -228,7 +229,7 @@ pub extern "C" fn a400_write(fields: &[u16], word: &mut [u16]) -> u32
         }
         None => {
             word[0] = 0;
-            9
+            NO_WORD
         }
     }
 }

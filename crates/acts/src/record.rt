@@ -195,7 +195,7 @@ impl Registers {
         maps.follow(word, memory, self.a, self.b)
     }
 
-    // The record that words are, if they are one.
+    // The record that words are, if they are one: by the names that the library has for numbers and their bytes.
     #[tactic(auto, unfolding(crate::specs::Record::registers_of))]
     pub fn from_words(words: &[u16]) -> Option<Registers>
         ensures { result ≡ registers_of words.now }

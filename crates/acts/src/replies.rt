@@ -17,7 +17,7 @@ pub enum Refusal {
     TrapCell,
 }
 
-// Why an instruction was not completed.
+// Why an instruction was not completed. A bad call is found before any instruction.
 #[derive(Clone, Copy, Debug, PartialEq, Eq)]
 pub enum Stop {
     Violation,
@@ -38,6 +38,7 @@ impl From<Trouble> for Stop {
     }
 }
 
+// What hosts are told by its number: completed, or one of the ways to stop.
 #[derive(Clone, Copy, Debug, PartialEq, Eq)]
 pub enum Reply {
     Completed,

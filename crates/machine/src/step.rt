@@ -4,7 +4,7 @@ ghost use Rattle.machine.specs.Step.{good_call, Steps};
 
 use crate::run::go;
 use acts::record::Registers;
-use acts::replies::{Reply, Stepped};
+use acts::replies::{Stepped, Stop, settle};
 
 // Whether page registers and memory of these lengths, and the record, make a good call.
 pub(crate) fn is_good_call(registers: usize, words: usize, r: Registers) -> bool
@@ -25,8 +25,5 @@ pub fn step(r: Registers, pages: &mut [u16], memory: &mut [u16]) -> Stepped
             registers: ran.registers,
         };
     }
-    Stepped {
-        reply: Reply::BadCall,
-        registers: r,
-    }
+    settle(Err(Stop::BadCall), r)
 }

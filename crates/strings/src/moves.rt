@@ -273,7 +273,7 @@ impl Move {
     }
 
     // After the tests: one element after another, upward, a stretch of them on one page of each range at a
-    // time.
+    // time. A stretch is as long as both pages allow, so no count of turns is known before.
     #[tactic(auto, using(crate::proofs::Ranges::ready), unfolding(crate::specs::Strings::moving))]
     fn copy(self, r: Registers, pages: &[u16], memory: &mut [u16])
         requires { exec pages.now (tested self (fin (λ t. t))) r memory.old ≡ done r memory.old }

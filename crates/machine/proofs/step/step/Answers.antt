@@ -12,4 +12,4 @@ returns-then-is_good_call c = one_step _ _ _ c.go-ran.ensures refl
 
 pub returns : goal.returns
 unfolding stepped
-returns c = record { outcome = rw (← c.is_good_call.ensures, c.if-is_good_call.false); memory = rw (← c.is_good_call.ensures, c.if-is_good_call.false); registers = refl }
+returns c = record { outcome = rw (c.settle.ensures, ← c.is_good_call.ensures, c.if-is_good_call.false); memory = rw (← c.is_good_call.ensures, c.if-is_good_call.false); registers = refl }
