@@ -43,12 +43,12 @@ flag_back false = refl
 
 pub instruction_back : (i : Instruction) (w : ℕ) → writing i ≡ Some w → instruction_at (fields_of i) ≡ i
 unfolding instruction_at
-instruction_back (MemoryReference o indirect current offset) w h = rw (operation_back o, flag_back indirect, flag_back current) refl
+instruction_back (MemoryReference m) w h = rw (operation_back m.operation, flag_back m.indirect, flag_back m.current) refl
 instruction_back (ShiftRotate s) w h =
     rw (register_back s.register, flag_back s.enabled1, shift_back s.shift1, flag_back s.cle, flag_back s.sla, flag_back s.enabled2, shift_back s.shift2) refl
 instruction_back (AlterSkip s) w h =
     rw (register_back s.register, alter_back s.alter, flag_back s.sez, alter_back s.extend, flag_back s.ssa, flag_back s.sla, flag_back s.ina, flag_back s.sza, flag_back s.rss) refl
-instruction_back (InputOutput o bit11 bit9 select) w h = rw (io_back o, flag_back bit11, flag_back bit9) refl
+instruction_back (InputOutput io) w h = rw (io_back io.operation, flag_back io.bit11, flag_back io.bit9) refl
 instruction_back (Shift s places) w h = rw (long_back s) refl
 instruction_back (Extended e) w h = rw h (exact.write_then_read (Extended e) w h)
 instruction_back (NotBuilt v) w h =

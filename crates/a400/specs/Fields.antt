@@ -28,16 +28,16 @@ long_kind Rrr = 5
 
 -- an operation goes by bits 14 to 11, an exact code by the word that reads as it
 abbrev pub fields_of : Instruction → List ℕ
-fields_of (MemoryReference o indirect current offset) =
-    0 ∷ operation_code o / 0o4000 ∷ weight indirect ∷ weight current ∷ offset ∷ 0 ∷ 0 ∷ 0 ∷ 0 ∷ 0 ∷ []
+fields_of (MemoryReference m) =
+    0 ∷ operation_code m.operation / 0o4000 ∷ weight m.indirect ∷ weight m.current ∷ m.offset ∷ 0 ∷ 0 ∷ 0 ∷ 0 ∷ 0 ∷ []
 fields_of (ShiftRotate s) =
     1 ∷ register_flag s.register ∷ weight s.enabled1 ∷ shift_number s.shift1 ∷ weight s.cle ∷ weight s.sla
     ∷ weight s.enabled2 ∷ shift_number s.shift2 ∷ 0 ∷ 0 ∷ []
 fields_of (AlterSkip s) =
     2 ∷ register_flag s.register ∷ alter_number s.alter ∷ weight s.sez ∷ alter_number s.extend ∷ weight s.ssa
     ∷ weight s.sla ∷ weight s.ina ∷ weight s.sza ∷ weight s.rss ∷ []
-fields_of (InputOutput o bit11 bit9 select) =
-    3 ∷ io_number o ∷ weight bit11 ∷ weight bit9 ∷ select ∷ 0 ∷ 0 ∷ 0 ∷ 0 ∷ 0 ∷ []
+fields_of (InputOutput io) =
+    3 ∷ io_number io.operation ∷ weight io.bit11 ∷ weight io.bit9 ∷ io.select ∷ 0 ∷ 0 ∷ 0 ∷ 0 ∷ 0 ∷ []
 fields_of (Shift s places) = 4 ∷ long_kind s ∷ places ∷ 0 ∷ 0 ∷ 0 ∷ 0 ∷ 0 ∷ 0 ∷ 0 ∷ []
 fields_of (Extended e) = 5 ∷ word_of (writing (Extended e)) ∷ 0 ∷ 0 ∷ 0 ∷ 0 ∷ 0 ∷ 0 ∷ 0 ∷ 0 ∷ []
 fields_of (NotBuilt w) = 6 ∷ w ∷ 0 ∷ 0 ∷ 0 ∷ 0 ∷ 0 ∷ 0 ∷ 0 ∷ 0 ∷ []

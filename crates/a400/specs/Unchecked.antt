@@ -2,14 +2,16 @@
 -- what the calls give is said in Fields without it.
 --     longs, long_at    the long shifts by their number, and the one at a number
 --     field, is_set     a field, and whether it is 1
---     shift_rotate_at, alter_skip_at, instruction_at    the instruction
+--     memory_reference_at, shift_rotate_at, alter_skip_at, input_output_at, instruction_at    the instruction
 -- A number out of range is taken for some choice; the instruction then has other fields.
 -- Assumes nothing.
 use Rattle.std.specs.Prelude.{ℕ, Bool, cond, List, [], ◌∷◌, eqb, get_or}
 use Rattle.word.specs.declared.long.LongShift.{LongShift}
 use Rattle.word.specs.declared.long.LongShift.TheVariants.{Asl, Lsl, Rrl, Asr, Lsr, Rrr}
+use Rattle.code.specs.declared.instructions.MemoryReference as of_memory_reference
 use Rattle.code.specs.declared.instructions.ShiftRotate as of_shift_rotate
 use Rattle.code.specs.declared.instructions.AlterSkip as of_alter_skip
+use Rattle.code.specs.declared.instructions.InputOutput as of_input_output
 use Rattle.code.specs.declared.instructions.Instruction.{Instruction}
 use Rattle.code.specs.declared.instructions.Instruction.TheVariants.{MemoryReference, ShiftRotate, AlterSkip, InputOutput, LongShift as Shift}
 use Rattle.code.specs.Instructions.{operation_at, register_at, shift_at, alter_at, io_at, reading}
@@ -25,6 +27,15 @@ field f n = get_or f n 0
 
 abbrev pub is_set : List ℕ → ℕ → Bool
 is_set f n = eqb (field f n) 1
+
+abbrev pub memory_reference_at : List ℕ → of_memory_reference.MemoryReference
+memory_reference_at f =
+    record {
+      operation = operation_at (field f 1);
+      indirect = is_set f 2;
+      current = is_set f 3;
+      offset = field f 4;
+    }
 
 abbrev pub shift_rotate_at : List ℕ → of_shift_rotate.ShiftRotate
 shift_rotate_at f =
@@ -52,12 +63,21 @@ alter_skip_at f =
       rss = is_set f 9;
     }
 
+abbrev pub input_output_at : List ℕ → of_input_output.InputOutput
+input_output_at f =
+    record {
+      operation = io_at (field f 1);
+      bit11 = is_set f 2;
+      bit9 = is_set f 3;
+      select = field f 4;
+    }
+
 -- an exact code, and a word that is not built, go by their word
 unfoldable pub instruction_at : List ℕ → Instruction
 instruction_at f =
     let class : ℕ = field f 0 in
-    cond (eqb class 0) (MemoryReference (operation_at (field f 1)) (is_set f 2) (is_set f 3) (field f 4))
+    cond (eqb class 0) (MemoryReference (memory_reference_at f))
     (cond (eqb class 1) (ShiftRotate (shift_rotate_at f))
     (cond (eqb class 2) (AlterSkip (alter_skip_at f))
-    (cond (eqb class 3) (InputOutput (io_at (field f 1)) (is_set f 2) (is_set f 3) (field f 4))
+    (cond (eqb class 3) (InputOutput (input_output_at f))
     (cond (eqb class 4) (Shift (long_at (field f 1)) (field f 2)) (reading (field f 1))))))

@@ -3,13 +3,14 @@ ghost use Rattle.std.specs.Prelude.{◌≡◌, length};
 ghost use Rattle.code.specs.Instructions.{writing, word_of};
 ghost use Rattle.a400.specs.Calls.{Answers};
 ghost use Rattle.a400.specs.Fields.{long_kind, fields_of, writing_fields, read_call, write_call};
-ghost use Rattle.a400.specs.Unchecked.{long_at, shift_rotate_at, alter_skip_at, instruction_at};
+ghost use Rattle.a400.specs.Unchecked.{long_at, memory_reference_at, shift_rotate_at, alter_skip_at, input_output_at, instruction_at};
 
 use crate::{BAD_CALL, NO_WORD};
 use code::choices::{alter_at, io_at, operation_at, register_at, shift_at, shift_number};
 use code::codes::Extended;
 use code::instructions::{
-    AlterSkip, Instruction, ShiftRotate, read_instruction, write_instruction,
+    AlterSkip, InputOutput, Instruction, MemoryReference, ShiftRotate, read_instruction,
+    write_instruction,
 };
 use word::long::LongShift;
 
@@ -83,17 +84,12 @@ fn fields_of(i: Instruction) -> [u16; FIELDS]
     ensures { result ≡ fields_of i }
 {
     match i {
-        Instruction::MemoryReference {
-            operation,
-            indirect,
-            current,
-            offset,
-        } => [
+        Instruction::MemoryReference(m) => [
             0,
-            u16::from(operation) / 0o4000,
-            u16::from(indirect),
-            u16::from(current),
-            offset,
+            u16::from(m.operation) / 0o4000,
+            u16::from(m.indirect),
+            u16::from(m.current),
+            m.offset,
             0,
             0,
             0,
@@ -102,17 +98,12 @@ fn fields_of(i: Instruction) -> [u16; FIELDS]
         ],
         Instruction::ShiftRotate(s) => shift_rotate_fields(s),
         Instruction::AlterSkip(s) => alter_skip_fields(s),
-        Instruction::InputOutput {
-            operation,
-            bit11,
-            bit9,
-            select,
-        } => [
+        Instruction::InputOutput(io) => [
             3,
-            u16::from(operation),
-            u16::from(bit11),
-            u16::from(bit9),
-            select,
+            u16::from(io.operation),
+            u16::from(io.bit11),
+            u16::from(io.bit9),
+            io.select,
             0,
             0,
             0,
@@ -128,6 +119,17 @@ fn fields_of(i: Instruction) -> [u16; FIELDS]
 }
 
 // From fields to an instruction.
+
+fn memory_reference_at(fields: &[u16; FIELDS]) -> MemoryReference
+    ensures { result ≡ memory_reference_at fields.now }
+{
+    MemoryReference {
+        operation: operation_at(fields[1]),
+        indirect: fields[2] == 1,
+        current: fields[3] == 1,
+        offset: fields[4],
+    }
+}
 
 fn shift_rotate_at(fields: &[u16; FIELDS]) -> ShiftRotate
     ensures { result ≡ shift_rotate_at fields.now }
@@ -159,26 +161,27 @@ fn alter_skip_at(fields: &[u16; FIELDS]) -> AlterSkip
     }
 }
 
+fn input_output_at(fields: &[u16; FIELDS]) -> InputOutput
+    ensures { result ≡ input_output_at fields.now }
+{
+    InputOutput {
+        operation: io_at(fields[1]),
+        bit11: fields[2] == 1,
+        bit9: fields[3] == 1,
+        select: fields[4],
+    }
+}
+
 #[tactic(auto, unfolding(crate::specs::Unchecked::instruction_at))]
 fn instruction_at(fields: &[u16; FIELDS]) -> Instruction
     ensures { result ≡ instruction_at fields.now }
 {
     let first = fields[1];
     match fields[0] {
-        0 => Instruction::MemoryReference {
-            operation: operation_at(first),
-            indirect: fields[2] == 1,
-            current: fields[3] == 1,
-            offset: fields[4],
-        },
+        0 => Instruction::MemoryReference(memory_reference_at(fields)),
         1 => Instruction::ShiftRotate(shift_rotate_at(fields)),
         2 => Instruction::AlterSkip(alter_skip_at(fields)),
-        3 => Instruction::InputOutput {
-            operation: io_at(first),
-            bit11: fields[2] == 1,
-            bit9: fields[3] == 1,
-            select: fields[4],
-        },
+        3 => Instruction::InputOutput(input_output_at(fields)),
         4 => Instruction::LongShift {
             kind: long_at(first),
             places: fields[2],

@@ -49,10 +49,10 @@ word_again w fits = go (leb 2 (w / 0o4000 % 16)) (bit 15 w) (bit 10 w) refl refl
 
 pub instruction_again : (i : Instruction) (w : ℕ) → writing i ≡ Some w → Reads w i
 unfolding writing
-instruction_again (MemoryReference o i c n) w h = memory_read o i c n w h
+instruction_again (MemoryReference m) w h = memory_read m w h
 instruction_again (ShiftRotate s) w h = shift_read s w h
 instruction_again (AlterSkip s) w h = alter_read s w h
-instruction_again (InputOutput o b c n) w h = io_read o b c n w h
+instruction_again (InputOutput io) w h = io_read io w h
 instruction_again (Shift s n) w h = long_read s n w h
 instruction_again (Extended x) w h = exact_read x w h
 instruction_again (NotBuilt v) w h = not_built_read v w h

@@ -13,10 +13,10 @@ use borrow.Author.Tests.{eqb-true, le-ltb, le-leb, lt-leb, ltb-false}
 use lib.Dec.{eqb, ltb}
 use Rattle.std.specs.Prelude.{Some, None}
 use Rattle.word.specs.Words.{weight}
-use Rattle.code.specs.declared.instructions.Operation.{Operation}
-use Rattle.code.specs.declared.instructions.IoOperation.{IoOperation}
+use Rattle.code.specs.declared.instructions.MemoryReference as of_memory_reference
 use Rattle.code.specs.declared.instructions.ShiftRotate as of_shift_rotate
 use Rattle.code.specs.declared.instructions.AlterSkip as of_alter_skip
+use Rattle.code.specs.declared.instructions.InputOutput as of_input_output
 use Rattle.code.specs.declared.instructions.Instruction.{Instruction}
 use Rattle.code.specs.declared.instructions.Instruction.TheVariants.{MemoryReference, ShiftRotate, AlterSkip, InputOutput}
 use Rattle.code.specs.Instructions.{operation_code, register_flag, shift_number, alter_number, io_number, word_of}
@@ -152,26 +152,26 @@ module _ (w : ℕ) where
 abbrev pub Reads : ℕ → Instruction → Type 0
 Reads w i = (w < 0o200000) × (reading w ≡ i)
 
-pub memory_read :
-    (o : Operation) (i c : Bool) (n w : ℕ) → write_memory_reference o i c n ≡ Some w → Reads w (MemoryReference o i c n)
+pub memory_read : (m : of_memory_reference.MemoryReference) (w : ℕ) → write_memory_reference m ≡ Some w → Reads w (MemoryReference m)
 unfolding write_memory_reference memory_reference
-memory_read o i c n w e = go (ltb 0o1777 n) refl (operation_range o) (flag_small i) (flag_small c)
+memory_read m w e = go (ltb 0o1777 m.offset) refl (operation_range m.operation) (flag_small m.indirect) (flag_small m.current)
   where
     go :
-        (b : Bool) → ltb 0o1777 n ≡ b →
-        (2 ≤ operation_code o / 0o4000) × (operation_code o / 0o4000 < 16) × (operation_code o / 0o4000 * 0o4000 ≡ operation_code o) →
-        weight i < 2 → weight c < 2 → Reads w (MemoryReference o i c n)
+        (b : Bool) → ltb 0o1777 m.offset ≡ b →
+        (2 ≤ operation_code m.operation / 0o4000) × (operation_code m.operation / 0o4000 < 16)
+        × (operation_code m.operation / 0o4000 * 0o4000 ≡ operation_code m.operation) →
+        weight m.indirect < 2 → weight m.current < 2 → Reads w (MemoryReference m)
     go true h r fi fc = absurd (no_word (rw h at e))
     go false h r fi fc =
-        let s : weight i * 0o100000 + operation_code o + weight c * 0o2000 + n ≡ w = ap word_of (rw h at e) in
-        let l : n ≤ 0o1777 = ltb-false 0o1777 n h in
+        let s : weight m.indirect * 0o100000 + operation_code m.operation + weight m.current * 0o2000 + m.offset ≡ w = ap word_of (rw h at e) in
+        let l : m.offset ≤ 0o1777 = ltb-false 0o1777 m.offset h in
         let b : w < 0o200000 = omega arith in
-        let f₁ : w / 0o4000 % 16 ≡ operation_code o / 0o4000 = omega arith in
-        let f₂ : w / 0o100000 % 2 ≡ weight i = omega arith in
-        let f₃ : w / 0o2000 % 2 ≡ weight c = omega arith in
-        let f₄ : w % 0o2000 ≡ n = omega arith in (
+        let f₁ : w / 0o4000 % 16 ≡ operation_code m.operation / 0o4000 = omega arith in
+        let f₂ : w / 0o100000 % 2 ≡ weight m.indirect = omega arith in
+        let f₃ : w / 0o2000 % 2 ≡ weight m.current = omega arith in
+        let f₄ : w % 0o2000 ≡ m.offset = omega arith in (
           b,
-          is_memory w (rw f₁ r.0) ∙ rw (f₁, f₂, f₃, f₄, operation_back o, bit_flag i, bit_flag c),
+          is_memory w (rw f₁ r.0) ∙ rw (f₁, f₂, f₃, f₄, operation_back m.operation, bit_flag m.indirect, bit_flag m.current),
         )
 
 pub shift_read : (s : of_shift_rotate.ShiftRotate) (w : ℕ) → write_shift_rotate s ≡ Some w → Reads w (ShiftRotate s)
@@ -266,34 +266,34 @@ alter_read f w e =
           ),
     )
 
-pub io_read :
-    (o : IoOperation) (i c : Bool) (n w : ℕ) → write_input_output o i c n ≡ Some w → Reads w (InputOutput o i c n)
+pub io_read : (io : of_input_output.InputOutput) (w : ℕ) → write_input_output io ≡ Some w → Reads w (InputOutput io)
 unfolding write_input_output input_output
-io_read o i c n w e =
-    go (ltb 0o77 n) refl (weight i) (weight c) (io_number o) refl refl refl (flag_small i) (flag_small c) (io_small o)
+io_read io w e =
+    go (ltb 0o77 io.select) refl (weight io.bit11) (weight io.bit9) (io_number io.operation) refl refl refl (flag_small io.bit11)
+    (flag_small io.bit9) (io_small io.operation)
   where
     go :
-        (k : Bool) → ltb 0o77 n ≡ k → (a b d : ℕ) → weight i ≡ a → weight c ≡ b → io_number o ≡ d → a < 2 → b < 2 → d < 8 →
-        Reads w (InputOutput o i c n)
+        (k : Bool) → ltb 0o77 io.select ≡ k → (a b d : ℕ) → weight io.bit11 ≡ a → weight io.bit9 ≡ b → io_number io.operation ≡ d →
+        a < 2 → b < 2 → d < 8 → Reads w (InputOutput io)
     go true h a b d ea eb ed la lb ld = absurd (no_word (rw h at e))
     go false h a b d ea eb ed la lb ld =
-        let sum : 0o102000 + a * 0o4000 + b * 0o1000 + d * 0o100 + n ≡ w = rw (ea, eb, ed) at (ap word_of (rw h at e)) in
-        let ln : n < 0o100 = omega (arith, ltb-false 0o77 n h) in (
+        let sum : 0o102000 + a * 0o4000 + b * 0o1000 + d * 0o100 + io.select ≡ w = rw (ea, eb, ed) at (ap word_of (rw h at e)) in
+        let ln : io.select < 0o100 = omega (arith, ltb-false 0o77 io.select h) in (
           omega arith,
           is_io w
-              (rw (digit 0o4000 16 1 a (0o2000 + b * 0o1000 + d * 0o100 + n) w (omega arith) (omega arith) (omega arith)) la)
-              (digit 0o100000 2 0 1 (0o2000 + a * 0o4000 + b * 0o1000 + d * 0o100 + n) w (omega arith) (omega arith) (omega arith))
-              (digit 0o2000 2 (16 + a) 1 (b * 0o1000 + d * 0o100 + n) w (omega arith) (omega arith) (omega arith))
+              (rw (digit 0o4000 16 1 a (0o2000 + b * 0o1000 + d * 0o100 + io.select) w (omega arith) (omega arith) (omega arith)) la)
+              (digit 0o100000 2 0 1 (0o2000 + a * 0o4000 + b * 0o1000 + d * 0o100 + io.select) w (omega arith) (omega arith) (omega arith))
+              (digit 0o2000 2 (16 + a) 1 (b * 0o1000 + d * 0o100 + io.select) w (omega arith) (omega arith) (omega arith))
               ∙ rw (
-                digit 0o4000 2 8 a (0o2000 + b * 0o1000 + d * 0o100 + n) w (omega arith) la (omega arith),
-                digit 0o1000 2 (33 + a * 2) b (d * 0o100 + n) w (omega arith) lb (omega arith),
-                digit 0o100 8 (66 + a * 4 + b) d n w (omega arith) ld ln,
-                low 0o100 (528 + a * 32 + b * 8 + d) n w (omega arith) ln,
+                digit 0o4000 2 8 a (0o2000 + b * 0o1000 + d * 0o100 + io.select) w (omega arith) la (omega arith),
+                digit 0o1000 2 (33 + a * 2) b (d * 0o100 + io.select) w (omega arith) lb (omega arith),
+                digit 0o100 8 (66 + a * 4 + b) d io.select w (omega arith) ld ln,
+                low 0o100 (528 + a * 32 + b * 8 + d) io.select w (omega arith) ln,
                 ← ea,
                 ← eb,
                 ← ed,
-                bit_flag i,
-                bit_flag c,
-                io_back o,
+                bit_flag io.bit11,
+                bit_flag io.bit9,
+                io_back io.operation,
               ),
         )

@@ -31,6 +31,8 @@ use Rattle.code.proofs.codes.extended_length.Kinds as extended_length
 use Rattle.code.proofs.codes.extended_length.Reads as extended_length_reads
 use Rattle.code.proofs.codes.is_privileged.Kinds as is_privileged
 use Rattle.code.proofs.codes.is_privileged.Reads as is_privileged_reads
+use Rattle.code.proofs.instructions.memory_reference_of.Kinds as memory_reference_of
+use Rattle.code.proofs.instructions.memory_reference_of.Reads as memory_reference_of_reads
 use Rattle.code.proofs.instructions.shift_rotate_of.Kinds as shift_rotate_of
 use Rattle.code.proofs.instructions.shift_rotate_of.Reads as shift_rotate_of_reads
 use Rattle.code.proofs.instructions.alter_skip_of.Kinds as alter_skip_of
@@ -81,6 +83,9 @@ extended_length_tight κs a x y s t p q = p ∙ sym q
 
 pub is_privileged_tight : OneResult 0 is_privileged.ps is_privileged.r is_privileged_reads.Post
 is_privileged_tight κs a x y s t p q = p ∙ sym q
+
+pub memory_reference_of_tight : OneResult 0 memory_reference_of.ps memory_reference_of.r memory_reference_of_reads.Post
+memory_reference_of_tight κs a x y s t p q = p ∙ sym q
 
 pub shift_rotate_of_tight : OneResult 0 shift_rotate_of.ps shift_rotate_of.r shift_rotate_of_reads.Post
 shift_rotate_of_tight κs a x y s t p q = p ∙ sym q

@@ -16,12 +16,14 @@ use Rattle.code.specs.declared.codes.Kind.{Kind}
 use Rattle.code.specs.declared.codes.Kind.TheVariants.{Exact, Long}
 use Rattle.code.specs.declared.instructions.Operation.{Operation}
 use Rattle.code.specs.declared.instructions.Operation.TheVariants.{And, Jsb, Xor, Jmp, Ior, Isz, Ada, Adb, Cpa, Cpb, Lda, Ldb, Sta, Stb}
+use Rattle.code.specs.declared.instructions.MemoryReference as of_memory_reference
 use Rattle.code.specs.declared.instructions.ShiftRotate as of_shift_rotate
 use Rattle.code.specs.declared.instructions.Alter.{Alter}
 use Rattle.code.specs.declared.instructions.Alter.TheVariants.{Keep, Clear, Complement, Ones}
 use Rattle.code.specs.declared.instructions.AlterSkip as of_alter_skip
 use Rattle.code.specs.declared.instructions.IoOperation.{IoOperation}
 use Rattle.code.specs.declared.instructions.IoOperation.TheVariants.{Hlt, Flag, Sfc, Sfs, Mia, Lia, Ota, Control}
+use Rattle.code.specs.declared.instructions.InputOutput as of_input_output
 use Rattle.code.specs.declared.instructions.Instruction.{Instruction}
 use Rattle.code.specs.declared.instructions.Instruction.TheVariants.{MemoryReference, ShiftRotate, AlterSkip, InputOutput, LongShift as Shift, Extended, NotBuilt}
 pub use Rattle.word.specs.Long.{places}
@@ -108,8 +110,17 @@ io_at n = get_or ios n Control
 -- Reading.
 
 -- "bits 14 to 11 are the operation, bit 10 set means the page of the instruction, clear means page 0, bit 15 indirect"
+abbrev pub memory_fields : ℕ → of_memory_reference.MemoryReference
+memory_fields w =
+    record {
+      operation = operation_at (w / 0o4000 % 16);
+      indirect = bit 15 w;
+      current = bit 10 w;
+      offset = w % 0o2000;
+    }
+
 unfoldable pub memory_reference : ℕ → Instruction
-memory_reference w = MemoryReference (operation_at (w / 0o4000 % 16)) (bit 15 w) (bit 10 w) (w % 0o2000)
+memory_reference w = MemoryReference (memory_fields w)
 
 -- "First shift in bits 8 to 6, enabled by bit 9; CLE bit 5; SLA or SLB bit 3; second shift in bits 2 to 0, enabled by bit 4"
 abbrev pub shift_fields : ℕ → of_shift_rotate.ShiftRotate
@@ -147,7 +158,14 @@ alter_skip w = AlterSkip (alter_fields w)
 
 -- "bits 5 to 0 the select code"; bits 11 and 9 are kept for every code
 unfoldable pub input_output : ℕ → Instruction
-input_output w = InputOutput (io_at (w / 0o100 % 8)) (bit 11 w) (bit 9 w) (w % 0o100)
+input_output w =
+    InputOutput
+    (record {
+      operation = io_at (w / 0o100 % 8);
+      bit11 = bit 11 w;
+      bit9 = bit 9 w;
+      select = w % 0o100;
+    })
 
 abbrev pub of_kind : Kind → ℕ → Instruction
 of_kind (Exact e) w = Extended e
@@ -166,9 +184,10 @@ reading w =
 
 -- Writing.
 
-unfoldable pub write_memory_reference : Operation → Bool → Bool → ℕ → Option ℕ
-write_memory_reference o indirect current offset =
-    cond (ltb 0o1777 offset) None (Some (weight indirect * 0o100000 + operation_code o + weight current * 0o2000 + offset))
+unfoldable pub write_memory_reference : of_memory_reference.MemoryReference → Option ℕ
+write_memory_reference m =
+    cond (ltb 0o1777 m.offset) None
+    (Some (weight m.indirect * 0o100000 + operation_code m.operation + weight m.current * 0o2000 + m.offset))
 
 unfoldable pub write_shift_rotate : of_shift_rotate.ShiftRotate → Option ℕ
 write_shift_rotate s =
@@ -183,10 +202,10 @@ write_alter_skip s =
     + weight s.sez * 0o40 + weight s.ssa * 0o20 + weight s.sla * 0o10 + weight s.ina * 0o4 + weight s.sza * 0o2
     + weight s.rss)
 
-unfoldable pub write_input_output : IoOperation → Bool → Bool → ℕ → Option ℕ
-write_input_output o bit11 bit9 select =
-    cond (ltb 0o77 select) None
-    (Some (0o102000 + weight bit11 * 0o4000 + weight bit9 * 0o1000 + io_number o * 0o100 + select))
+unfoldable pub write_input_output : of_input_output.InputOutput → Option ℕ
+write_input_output io =
+    cond (ltb 0o77 io.select) None
+    (Some (0o102000 + weight io.bit11 * 0o4000 + weight io.bit9 * 0o1000 + io_number io.operation * 0o100 + io.select))
 
 -- a count of 1 to 16 in the low four bits
 unfoldable pub write_long_shift : LongShift → ℕ → Option ℕ
@@ -198,10 +217,10 @@ unfoldable pub write_extended : of_extended.Extended → Option ℕ
 write_extended e = elim (find_kind (Exact e)) [ Some r ↦ Some r.code | None ↦ None ]
 
 abbrev pub built : Instruction → Bool
-built (MemoryReference o i c n) = true
+built (MemoryReference m) = true
 built (ShiftRotate s) = true
 built (AlterSkip s) = true
-built (InputOutput o b c n) = true
+built (InputOutput io) = true
 built (Shift s n) = true
 built (Extended e) = true
 built (NotBuilt w) = false
@@ -212,10 +231,10 @@ write_not_built w = cond (ltb w 0o200000) (cond (built (reading w)) None (Some w
 
 -- "no word reads as this instruction" is `None`
 unfoldable pub writing : Instruction → Option ℕ
-writing (MemoryReference o indirect current offset) = write_memory_reference o indirect current offset
+writing (MemoryReference m) = write_memory_reference m
 writing (ShiftRotate s) = write_shift_rotate s
 writing (AlterSkip s) = write_alter_skip s
-writing (InputOutput o bit11 bit9 select) = write_input_output o bit11 bit9 select
+writing (InputOutput io) = write_input_output io
 writing (Shift s n) = write_long_shift s n
 writing (Extended e) = write_extended e
 writing (NotBuilt w) = write_not_built w

@@ -1,6 +1,6 @@
 // Every word read as one instruction, and every instruction that has a word written back.
 ghost use Rattle.std.specs.Prelude.{◌≡◌, ◌≤◌};
-ghost use Rattle.code.specs.Instructions.{memory_reference, shift_fields, shift_rotate, alter_fields, alter_skip};
+ghost use Rattle.code.specs.Instructions.{memory_fields, memory_reference, shift_fields, shift_rotate, alter_fields, alter_skip};
 ghost use Rattle.code.specs.Instructions.{input_output, extended, reading};
 ghost use Rattle.code.specs.Instructions.{places, write_memory_reference, write_shift_rotate, write_alter_skip, write_input_output};
 ghost use Rattle.code.specs.Instructions.{write_long_shift, write_extended, built, write_not_built, writing};
@@ -26,6 +26,14 @@ pub enum Operation {
     Ldb = 0o064000,
     Sta = 0o070000,
     Stb = 0o074000,
+}
+
+#[derive(Clone, Copy, Debug, PartialEq, Eq)]
+pub struct MemoryReference {
+    pub operation: Operation,
+    pub indirect: bool,
+    pub current: bool,
+    pub offset: u16,
 }
 
 // The first shift, CLE, SLA and the second shift, in this order.
@@ -76,36 +84,31 @@ pub enum IoOperation {
 }
 
 #[derive(Clone, Copy, Debug, PartialEq, Eq)]
+pub struct InputOutput {
+    pub operation: IoOperation,
+    pub bit11: bool,
+    pub bit9: bool,
+    pub select: u16,
+}
+
+#[derive(Clone, Copy, Debug, PartialEq, Eq)]
 pub enum Instruction {
-    MemoryReference {
-        operation: Operation,
-        indirect: bool,
-        current: bool,
-        offset: u16,
-    },
+    MemoryReference(MemoryReference),
     ShiftRotate(ShiftRotate),
     AlterSkip(AlterSkip),
-    InputOutput {
-        operation: IoOperation,
-        bit11: bool,
-        bit9: bool,
-        select: u16,
-    },
-    LongShift {
-        kind: LongShift,
-        places: u16,
-    },
+    InputOutput(InputOutput),
+    LongShift { kind: LongShift, places: u16 },
     Extended(Extended),
     NotBuilt(u16),
 }
 
 // Reading, field by field.
 
-#[tactic(auto, unfolding(crate::specs::Instructions::memory_reference))]
-fn read_memory_reference(word: u16) -> Instruction
-    ensures { result ≡ memory_reference word }
+// The fields of a memory reference word, whatever the bits are that tell it for one.
+pub fn memory_reference_of(word: u16) -> MemoryReference
+    ensures { result ≡ memory_fields word }
 {
-    Instruction::MemoryReference {
+    MemoryReference {
         operation: operation_at(word / 0o4000 % 16),
         indirect: word / 0o100000 % 2 == 1,
         current: word / 0o2000 % 2 == 1,
@@ -113,7 +116,14 @@ fn read_memory_reference(word: u16) -> Instruction
     }
 }
 
-// The fields of a shift/rotate word, whatever the bits are that tell it for one.
+#[tactic(auto, unfolding(crate::specs::Instructions::memory_reference))]
+fn read_memory_reference(word: u16) -> Instruction
+    ensures { result ≡ memory_reference word }
+{
+    Instruction::MemoryReference(memory_reference_of(word))
+}
+
+// The fields of a shift/rotate word, likewise.
 pub fn shift_rotate_of(word: u16) -> ShiftRotate
     ensures { result ≡ shift_fields word }
 {
@@ -163,12 +173,12 @@ fn read_alter_skip(word: u16) -> Instruction
 fn read_input_output(word: u16) -> Instruction
     ensures { result ≡ input_output word }
 {
-    Instruction::InputOutput {
+    Instruction::InputOutput(InputOutput {
         operation: io_at(word / 0o100 % 8),
         bit11: word / 0o4000 % 2 == 1,
         bit9: word / 0o1000 % 2 == 1,
         select: word % 0o100,
-    }
+    })
 }
 
 // The count of a long shift: its low four bits, 0 means 16.
@@ -216,22 +226,17 @@ pub fn read_instruction(word: u16) -> Instruction
 // Writing, field by field.
 
 #[tactic(auto, unfolding(crate::specs::Instructions::write_memory_reference))]
-fn write_memory_reference(
-    operation: Operation,
-    indirect: bool,
-    current: bool,
-    offset: u16,
-) -> Option<u16>
-    ensures { result ≡ write_memory_reference operation indirect current offset }
+fn write_memory_reference(m: MemoryReference) -> Option<u16>
+    ensures { result ≡ write_memory_reference m }
 {
-    if 0o1777 < offset {
+    if 0o1777 < m.offset {
         return None;
     }
     Some(
-        u16::from(indirect) * 0o100000
-            + u16::from(operation)
-            + u16::from(current) * 0o2000
-            + offset,
+        u16::from(m.indirect) * 0o100000
+            + u16::from(m.operation)
+            + u16::from(m.current) * 0o2000
+            + m.offset,
     )
 }
 
@@ -269,18 +274,18 @@ fn write_alter_skip(s: AlterSkip) -> Option<u16>
 }
 
 #[tactic(auto, unfolding(crate::specs::Instructions::write_input_output))]
-fn write_input_output(operation: IoOperation, bit11: bool, bit9: bool, select: u16) -> Option<u16>
-    ensures { result ≡ write_input_output operation bit11 bit9 select }
+fn write_input_output(io: InputOutput) -> Option<u16>
+    ensures { result ≡ write_input_output io }
 {
-    if 0o77 < select {
+    if 0o77 < io.select {
         return None;
     }
     Some(
         0o102000
-            + u16::from(bit11) * 0o4000
-            + u16::from(bit9) * 0o1000
-            + u16::from(operation) * 0o100
-            + select,
+            + u16::from(io.bit11) * 0o4000
+            + u16::from(io.bit9) * 0o1000
+            + u16::from(io.operation) * 0o100
+            + io.select,
     )
 }
 
@@ -326,20 +331,10 @@ pub fn write_instruction(instruction: Instruction) -> Option<u16>
     ensures { result ≡ writing instruction }
 {
     match instruction {
-        Instruction::MemoryReference {
-            operation,
-            indirect,
-            current,
-            offset,
-        } => write_memory_reference(operation, indirect, current, offset),
+        Instruction::MemoryReference(fields) => write_memory_reference(fields),
         Instruction::ShiftRotate(fields) => write_shift_rotate(fields),
         Instruction::AlterSkip(fields) => write_alter_skip(fields),
-        Instruction::InputOutput {
-            operation,
-            bit11,
-            bit9,
-            select,
-        } => write_input_output(operation, bit11, bit9, select),
+        Instruction::InputOutput(fields) => write_input_output(fields),
         Instruction::LongShift { kind, places } => write_long_shift(kind, places),
         Instruction::Extended(code) => write_extended(code),
         Instruction::NotBuilt(word) => write_not_built(word),

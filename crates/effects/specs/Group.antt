@@ -24,6 +24,7 @@ use Rattle.code.specs.declared.codes.Register.TheVariants.{A, B}
 use Rattle.code.specs.declared.codes.Index.{Index}
 use Rattle.code.specs.declared.instructions.ShiftRotate.{ShiftRotate}
 use Rattle.code.specs.declared.instructions.AlterSkip.{AlterSkip}
+use Rattle.code.specs.declared.instructions.InputOutput.{InputOutput}
 use Rattle.code.specs.declared.instructions.IoOperation.{IoOperation}
 use Rattle.code.specs.declared.instructions.IoOperation.TheVariants.{Hlt, Flag, Sfc, Sfs, Mia, Lia, Ota, Control}
 use Rattle.acts.specs.declared.replies.Refusal.{Refusal}
@@ -106,15 +107,18 @@ picked bit11 = cond bit11 B A
 
 -- 01: "Select code 01: STF sets O, CLF clears it, SFC and SFS test it, and bit 9 with SFC or SFS clears O afterwards. LIA 01
 -- gives switches times 256, OTA 01 puts the low byte in the lights, both with bit 9 clear. The remaining I/O codes reply 2."
-unfoldable pub panel_act : IoOperation → Bool → Bool → Act
-panel_act Hlt bit11 bit9 = stop Refusal.InputOutput
-panel_act Flag bit11 bit9 = fin (λ s. ahead 1 (with_o s (not bit9)))
-panel_act Sfc bit11 bit9 = fin (λ s. ahead (1 + weight (not s.o)) (with_o s (s.o && not bit9)))
-panel_act Sfs bit11 bit9 = fin (λ s. ahead (1 + weight s.o) (with_o s (s.o && not bit9)))
-panel_act Mia bit11 bit9 = stop Refusal.InputOutput
-panel_act Lia bit11 bit9 = cond bit9 (stop Refusal.InputOutput) (fin (λ s. ahead 1 (with_register (picked bit11) s (s.switches * 256))))
-panel_act Ota bit11 bit9 = cond bit9 (stop Refusal.InputOutput) (fin (λ s. ahead 1 (with_lights s (in_register (picked bit11) s % 256))))
-panel_act Control bit11 bit9 = stop Refusal.InputOutput
+unfoldable pub panel_act : InputOutput → Act
+panel_act io =
+    elim io.operation [
+      | Hlt ↦ stop Refusal.InputOutput
+      | Flag ↦ fin (λ s. ahead 1 (with_o s (not io.bit9)))
+      | Sfc ↦ fin (λ s. ahead (1 + weight (not s.o)) (with_o s (s.o && not io.bit9)))
+      | Sfs ↦ fin (λ s. ahead (1 + weight s.o) (with_o s (s.o && not io.bit9)))
+      | Mia ↦ stop Refusal.InputOutput
+      | Lia ↦ cond io.bit9 (stop Refusal.InputOutput) (fin (λ s. ahead 1 (with_register (picked io.bit11) s (s.switches * 256))))
+      | Ota ↦ cond io.bit9 (stop Refusal.InputOutput) (fin (λ s. ahead 1 (with_lights s (in_register (picked io.bit11) s % 256))))
+      | Control ↦ stop Refusal.InputOutput
+    ]
 
 abbrev pub is_halt : IoOperation → Bool
 is_halt Hlt = true
@@ -127,10 +131,10 @@ is_halt Ota = false
 is_halt Control = false
 
 -- 01, Violation: with protection on "any I/O code except select code 01, any HLT"
-unfoldable pub io_act : IoOperation → Bool → Bool → ℕ → Registers → Act
-io_act io bit11 bit9 select r =
-    cond (protecting r.wmap && (is_halt io || not (eqb select 1))) violate
-    (cond (eqb select 1) (panel_act io bit11 bit9) (stop Refusal.InputOutput))
+unfoldable pub io_act : InputOutput → Registers → Act
+io_act io r =
+    cond (protecting r.wmap && (is_halt io.operation || not (eqb io.select 1))) violate
+    (cond (eqb io.select 1) (panel_act io) (stop Refusal.InputOutput))
 
 -- what a function that carries out a program of no accesses promises: the same whatever page registers and memory hold
 abbrev pub PerformsAlone : Act → Registers → Result Registers Stop → Type 0

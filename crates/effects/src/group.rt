@@ -10,7 +10,7 @@ use crate::ways::set_flags;
 use acts::record::Registers;
 use acts::replies::{Refusal, Stop};
 use code::codes::{Index, Register};
-use code::instructions::{Alter, AlterSkip, IoOperation, ShiftRotate};
+use code::instructions::{Alter, AlterSkip, InputOutput, IoOperation, ShiftRotate};
 use maps::pages::is_protecting;
 use word::bits::complement;
 use word::long::{LongShift, long_shift};
@@ -210,24 +210,24 @@ fn put_lights(g: Register, r: Registers) -> Registers
 }
 
 // Select code 01.
-fn panel(io: IoOperation, bit11: bool, bit9: bool, r: Registers) -> Result<Registers, Stop>
-    ensures { PerformsAlone (panel_act io bit11 bit9) r result }
+fn panel(io: InputOutput, r: Registers) -> Result<Registers, Stop>
+    ensures { PerformsAlone (panel_act io) r result }
 {
-    match io {
-        IoOperation::Flag => Ok(set_overflow(!bit9, r)),
-        IoOperation::Sfc => Ok(test_overflow(!r.o, bit9, r)),
-        IoOperation::Sfs => Ok(test_overflow(r.o, bit9, r)),
+    match io.operation {
+        IoOperation::Flag => Ok(set_overflow(!io.bit9, r)),
+        IoOperation::Sfc => Ok(test_overflow(!r.o, io.bit9, r)),
+        IoOperation::Sfs => Ok(test_overflow(r.o, io.bit9, r)),
         IoOperation::Lia => {
-            if bit9 {
+            if io.bit9 {
                 return Err(Stop::Refused(Refusal::InputOutput));
             }
-            Ok(take_switches(register_of(bit11), r))
+            Ok(take_switches(register_of(io.bit11), r))
         }
         IoOperation::Ota => {
-            if bit9 {
+            if io.bit9 {
                 return Err(Stop::Refused(Refusal::InputOutput));
             }
-            Ok(put_lights(register_of(bit11), r))
+            Ok(put_lights(register_of(io.bit11), r))
         }
         IoOperation::Hlt | IoOperation::Mia | IoOperation::Control => {
             Err(Stop::Refused(Refusal::InputOutput))
@@ -236,20 +236,14 @@ fn panel(io: IoOperation, bit11: bool, bit9: bool, r: Registers) -> Result<Regis
 }
 
 // With protection on, a HLT is a violation, and so is every other select code.
-pub fn input_output(
-    io: IoOperation,
-    bit11: bool,
-    bit9: bool,
-    select: u16,
-    r: Registers,
-) -> Result<Registers, Stop>
-    ensures { PerformsAlone (io_act io bit11 bit9 select r) r result }
+pub fn input_output(io: InputOutput, r: Registers) -> Result<Registers, Stop>
+    ensures { PerformsAlone (io_act io r) r result }
 {
-    if is_protecting(r.wmap) & (is_halt(io) | (select != 1)) {
+    if is_protecting(r.wmap) & (is_halt(io.operation) | (io.select != 1)) {
         return Err(Stop::Violation);
     }
-    if select == 1 {
-        return panel(io, bit11, bit9, r);
+    if io.select == 1 {
+        return panel(io, r);
     }
     Err(Stop::Refused(Refusal::InputOutput))
 }

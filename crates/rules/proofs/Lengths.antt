@@ -39,7 +39,7 @@ use Rattle.code.specs.declared.codes.Kind.TheVariants.{Exact, Long}
 use Rattle.code.specs.declared.codes.Entry.{Entry}
 use Rattle.code.specs.declared.instructions.ShiftRotate.{ShiftRotate}
 use Rattle.code.specs.declared.instructions.AlterSkip.{AlterSkip}
-use Rattle.code.specs.declared.instructions.IoOperation.{IoOperation}
+use Rattle.code.specs.declared.instructions.InputOutput.{InputOutput}
 use Rattle.code.specs.declared.instructions.IoOperation.TheVariants.{Hlt, Flag, Sfc, Sfs, Mia, Lia, Ota, Control}
 use Rattle.effects.specs.declared.ways.Taking.{Taking}
 use Rattle.effects.specs.declared.ways.Taking.TheVariants.{And, Xor, Ior, Add, Load, Multiply, Divide, LoadIndex, AddIndex}
@@ -162,22 +162,25 @@ module _ (r : Registers) where
 
   -- I/O
 
-  panel_moves : (io : IoOperation) (bit11 bit9 : Bool) → Moves 1 (panel_act io bit11 bit9)
+  panel_moves : (io : InputOutput) → Moves 1 (panel_act io)
   unfolding panel_act
-  panel_moves Hlt bit11 bit9 = tt
-  panel_moves Flag bit11 bit9 = λ s e. exact 1 e
-  panel_moves Sfc bit11 bit9 = λ s e. skips 1 (not s.o) e
-  panel_moves Sfs bit11 bit9 = λ s e. skips 1 s.o e
-  panel_moves Mia bit11 bit9 = tt
-  panel_moves Lia bit11 bit9 = either Here (Gone 1) bit9 (stop Refusal.InputOutput) _ tt (λ s e. exact 1 (register_p (picked bit11) s _ ∙ e))
-  panel_moves Ota bit11 bit9 = either Here (Gone 1) bit9 (stop Refusal.InputOutput) _ tt (λ s e. exact 1 e)
-  panel_moves Control bit11 bit9 = tt
+  panel_moves io =
+      elim io.operation as (λ o. Moves 1 (panel_act (record { operation = o; bit11 = io.bit11; bit9 = io.bit9; select = io.select }))) [
+        | Hlt ↦ tt
+        | Flag ↦ λ s e. exact 1 e
+        | Sfc ↦ λ s e. skips 1 (not s.o) e
+        | Sfs ↦ λ s e. skips 1 s.o e
+        | Mia ↦ tt
+        | Lia ↦ either Here (Gone 1) io.bit9 (stop Refusal.InputOutput) _ tt (λ s e. exact 1 (register_p (picked io.bit11) s _ ∙ e))
+        | Ota ↦ either Here (Gone 1) io.bit9 (stop Refusal.InputOutput) _ tt (λ s e. exact 1 e)
+        | Control ↦ tt
+      ]
 
-  io_moves : (io : IoOperation) (bit11 bit9 : Bool) (select : ℕ) → Moves 1 (io_act io bit11 bit9 select r)
+  io_moves : (io : InputOutput) → Moves 1 (io_act io r)
   unfolding io_act
-  io_moves io bit11 bit9 select =
-      either Here (Gone 1) (protecting r.wmap && (is_halt io || not (eqb select 1))) violate _ tt
-      (either Here (Gone 1) (eqb select 1) (panel_act io bit11 bit9) (stop Refusal.InputOutput) (panel_moves io bit11 bit9) tt)
+  io_moves io =
+      either Here (Gone 1) (protecting r.wmap && (is_halt io.operation || not (eqb io.select 1))) violate _ tt
+      (either Here (Gone 1) (eqb io.select 1) (panel_act io) (stop Refusal.InputOutput) (panel_moves io) tt)
 
   -- strings of words and bytes
 
@@ -211,7 +214,7 @@ module _ (r : Registers) where
       reaches Here (Gone (words_of from)) from r _ (λ m l. way_moves way m (words_of from) no_jump)
   act_moves (Action.ShiftRotate i) no_jump = shift_moves i
   act_moves (Action.AlterSkip i) no_jump = alter_moves i
-  act_moves (Action.InputOutput io bit11 bit9 select) no_jump = io_moves io bit11 bit9 select
+  act_moves (Action.InputOutput io) no_jump = io_moves io
   act_moves (Action.LongShift kind n) no_jump = λ s e. exact 1 e
   act_moves (CopyToIndex g i) no_jump = to_index_moves g i
   act_moves (CopyFromIndex g i) no_jump = λ s e. exact 1 (register_p g s _ ∙ e)

@@ -39,7 +39,7 @@ use Rattle.code.specs.declared.codes.Index.{Index}
 use Rattle.code.specs.declared.codes.Index.TheVariants.{X, Y}
 use Rattle.code.specs.declared.instructions.ShiftRotate.{ShiftRotate}
 use Rattle.code.specs.declared.instructions.AlterSkip.{AlterSkip}
-use Rattle.code.specs.declared.instructions.IoOperation.{IoOperation}
+use Rattle.code.specs.declared.instructions.InputOutput.{InputOutput}
 use Rattle.code.specs.declared.instructions.IoOperation.TheVariants.{Hlt, Flag, Sfc, Sfs, Mia, Lia, Ota, Control}
 use Rattle.code.specs.declared.instructions.Operation.{Operation}
 use Rattle.effects.specs.declared.ways.Taking.{Taking}
@@ -191,25 +191,28 @@ module _ (wmap : ℕ) where
 
   -- I/O
 
-  panel_sound : (io : IoOperation) (bit11 bit9 : Bool) → KeepsSound (panel_act io bit11 bit9)
+  panel_sound : (io : InputOutput) → KeepsSound (panel_act io)
   unfolding panel_act
-  panel_sound Hlt bit11 bit9 = tt
-  panel_sound Flag bit11 bit9 = ahead_sound 1
-  panel_sound Sfc bit11 bit9 = λ s. ahead_sound (1 + weight (not s.o)) s
-  panel_sound Sfs bit11 bit9 = λ s. ahead_sound (1 + weight s.o) s
-  panel_sound Mia bit11 bit9 = tt
-  panel_sound Lia bit11 bit9 =
-      either Sound Sound bit9 (stop Refusal.InputOutput) (fin (λ s. ahead 1 (with_register (picked bit11) s (s.switches * 256)))) tt
-      (λ s h. ahead_sound 1 (with_register (picked bit11) s (s.switches * 256)) (register_sound (picked bit11) s (s.switches * 256) h))
-  panel_sound Ota bit11 bit9 =
-      either Sound Sound bit9 (stop Refusal.InputOutput) (fin (λ s. ahead 1 (with_lights s (in_register (picked bit11) s % 256)))) tt (ahead_sound 1)
-  panel_sound Control bit11 bit9 = tt
+  panel_sound io =
+      elim io.operation as (λ o. KeepsSound (panel_act (record { operation = o; bit11 = io.bit11; bit9 = io.bit9; select = io.select }))) [
+        | Hlt ↦ tt
+        | Flag ↦ ahead_sound 1
+        | Sfc ↦ λ s. ahead_sound (1 + weight (not s.o)) s
+        | Sfs ↦ λ s. ahead_sound (1 + weight s.o) s
+        | Mia ↦ tt
+        | Lia ↦
+            either Sound Sound io.bit9 (stop Refusal.InputOutput) (fin (λ s. ahead 1 (with_register (picked io.bit11) s (s.switches * 256)))) tt
+            (λ s h. ahead_sound 1 (with_register (picked io.bit11) s (s.switches * 256)) (register_sound (picked io.bit11) s (s.switches * 256) h))
+        | Ota ↦
+            either Sound Sound io.bit9 (stop Refusal.InputOutput) (fin (λ s. ahead 1 (with_lights s (in_register (picked io.bit11) s % 256)))) tt (ahead_sound 1)
+        | Control ↦ tt
+      ]
 
-  io_sound : (io : IoOperation) (bit11 bit9 : Bool) (select : ℕ) (r : Registers) → KeepsSound (io_act io bit11 bit9 select r)
+  io_sound : (io : InputOutput) (r : Registers) → KeepsSound (io_act io r)
   unfolding io_act
-  io_sound io bit11 bit9 select r =
-      either Sound Sound (protecting r.wmap && (is_halt io || not (eqb select 1))) violate _ tt
-      (either Sound Sound (eqb select 1) (panel_act io bit11 bit9) (stop Refusal.InputOutput) (panel_sound io bit11 bit9) tt)
+  io_sound io r =
+      either Sound Sound (protecting r.wmap && (is_halt io.operation || not (eqb io.select 1))) violate _ tt
+      (either Sound Sound (eqb io.select 1) (panel_act io) (stop Refusal.InputOutput) (panel_sound io) tt)
 
   -- words and bytes, and strings of them
 
@@ -249,7 +252,7 @@ module _ (wmap : ℕ) where
   act_sound (At way from) r = reaches Sound Sound from r _ (λ m l. way_sound way r m (words_of from) l)
   act_sound (Action.ShiftRotate i) r = shift_sound i
   act_sound (Action.AlterSkip i) r = alter_sound i
-  act_sound (Action.InputOutput io bit11 bit9 select) r = io_sound io bit11 bit9 select r
+  act_sound (Action.InputOutput io) r = io_sound io r
   act_sound (Action.LongShift kind n) r = long_sound kind n
   act_sound (CopyToIndex g i) r = to_index_sound g i
   act_sound (CopyFromIndex g i) r = from_index_sound g i

@@ -136,11 +136,11 @@ extended_action (Extended.Words x) = words_action x
 
 -- what an instruction at p asks for
 abbrev pub action : Instruction → ℕ → Action
-action (Instruction.MemoryReference operation indirect current offset) p =
-    At (memory_way operation) (Made (memory_word indirect current offset p))
+action (Instruction.MemoryReference m) p =
+    At (memory_way m.operation) (Made (memory_word m.indirect m.current m.offset p))
 action (Instruction.ShiftRotate i) p = Action.ShiftRotate i
 action (Instruction.AlterSkip i) p = Action.AlterSkip i
-action (Instruction.InputOutput io bit11 bit9 select) p = Action.InputOutput io bit11 bit9 select
+action (Instruction.InputOutput io) p = Action.InputOutput io
 action (Instruction.LongShift kind n) p = Action.LongShift kind n
 action (Instruction.Extended x) p = extended_action x
 action (Instruction.NotBuilt w) p = Action.NotBuilt w
@@ -150,7 +150,7 @@ abbrev pub act : Action → Registers → Act
 act (At way from) r = reached from r (λ m. way_act way r m (words_of from))
 act (Action.ShiftRotate i) r = fin (shift_rotated i)
 act (Action.AlterSkip i) r = fin (alter_skipped i)
-act (Action.InputOutput io bit11 bit9 select) r = io_act io bit11 bit9 select r
+act (Action.InputOutput io) r = io_act io r
 act (Action.LongShift kind n) r = fin (long_rotated kind n)
 act (CopyToIndex g i) r = fin (copied_to_index g i)
 act (CopyFromIndex g i) r = fin (copied_from_index g i)
@@ -170,7 +170,7 @@ abbrev pub action_words : Action → ℕ
 action_words (At way from) = words_of from
 action_words (Action.ShiftRotate i) = 1
 action_words (Action.AlterSkip i) = 1
-action_words (Action.InputOutput io bit11 bit9 select) = 1
+action_words (Action.InputOutput io) = 1
 action_words (Action.LongShift kind n) = 1
 action_words (CopyToIndex g i) = 1
 action_words (CopyFromIndex g i) = 1
@@ -198,7 +198,7 @@ abbrev pub jumping : Action → Bool
 jumping (At way from) = jumps way
 jumping (Action.ShiftRotate i) = false
 jumping (Action.AlterSkip i) = false
-jumping (Action.InputOutput io bit11 bit9 select) = false
+jumping (Action.InputOutput io) = false
 jumping (Action.LongShift kind n) = false
 jumping (CopyToIndex g i) = false
 jumping (CopyFromIndex g i) = false

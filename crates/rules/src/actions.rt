@@ -4,12 +4,12 @@ ghost use Rattle.code.specs.Instructions.{reading};
 ghost use Rattle.rules.specs.Rules.{data_map, arithmetic_way, cross_way, transfer_action, indexing_action, bytes_action, words_action, extended_action, action};
 
 use crate::memory::{memory_way, memory_word};
-use code::choices::operation_at;
 use code::codes::{
     Arithmetic, Bits, Bytes, Cross, Data, Extended, Index, Indexing, Register, Transfer, Words,
 };
 use code::instructions::{
-    AlterSkip, Instruction, IoOperation, Operation, ShiftRotate, read_instruction,
+    AlterSkip, InputOutput, Instruction, MemoryReference, ShiftRotate, memory_reference_of,
+    read_instruction,
 };
 use effects::ways::{Addressing, Source, Taking, Way};
 use maps::pages::Map;
@@ -17,18 +17,18 @@ use strings::strings::Element;
 use word::long::LongShift;
 
 // Where an instruction finds its address word: it is made from the instruction itself, or is the next word.
-#[derive(Clone, Copy)]
+#[derive(Clone, Copy, Debug, PartialEq, Eq)]
 pub enum Operand {
     Made(u16),
     Next,
 }
 
-#[derive(Clone, Copy)]
+#[derive(Clone, Copy, Debug, PartialEq, Eq)]
 pub enum Action {
     At(Way, Operand),
     ShiftRotate(ShiftRotate),
     AlterSkip(AlterSkip),
-    InputOutput(IoOperation, bool, bool, u16),
+    InputOutput(InputOutput),
     LongShift(LongShift, u16),
     CopyToIndex(Register, Index),
     CopyFromIndex(Register, Index),
@@ -146,12 +146,12 @@ fn extended(x: Extended) -> Action
     }
 }
 
-fn reference(operation: Operation, indirect: bool, current: bool, offset: u16, p: u16) -> Action
-    ensures { result ≡ action (Instruction.MemoryReference operation indirect current offset) p }
+fn reference(m: MemoryReference, p: u16) -> Action
+    ensures { result ≡ action (Instruction.MemoryReference m) p }
 {
     Action::At(
-        memory_way(operation),
-        Operand::Made(memory_word(indirect, current, offset, p)),
+        memory_way(m.operation),
+        Operand::Made(memory_word(m.indirect, m.current, m.offset, p)),
     )
 }
 
@@ -160,29 +160,13 @@ pub fn action_of(word: u16, p: u16) -> Action
     ensures { result ≡ action (reading word) p }
 {
     if 2 <= word / 0o4000 % 16 {
-        return reference(
-            operation_at(word / 0o4000 % 16),
-            word / 0o100000 % 2 == 1,
-            word / 0o2000 % 2 == 1,
-            word % 0o2000,
-            p,
-        );
+        return reference(memory_reference_of(word), p);
     }
     match read_instruction(word) {
-        Instruction::MemoryReference {
-            operation,
-            indirect,
-            current,
-            offset,
-        } => reference(operation, indirect, current, offset, p),
+        Instruction::MemoryReference(fields) => reference(fields, p),
         Instruction::ShiftRotate(fields) => Action::ShiftRotate(fields),
         Instruction::AlterSkip(fields) => Action::AlterSkip(fields),
-        Instruction::InputOutput {
-            operation,
-            bit11,
-            bit9,
-            select,
-        } => Action::InputOutput(operation, bit11, bit9, select),
+        Instruction::InputOutput(fields) => Action::InputOutput(fields),
         Instruction::LongShift { kind, places } => Action::LongShift(kind, places),
         Instruction::Extended(x) => extended(x),
         Instruction::NotBuilt(w) => Action::NotBuilt(w),

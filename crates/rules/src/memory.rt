@@ -46,7 +46,8 @@ pub fn memory_way(operation: Operation) -> Way
     }
 }
 
-// The instruction's address as an address word.
+// The instruction's address as an address word. By its parts: a trap cell's word need not be a memory reference, and lane
+// gives bit 15 apart.
 pub fn memory_word(indirect: bool, current: bool, offset: u16, p: u16) -> u16
     ensures { result ≡ memory_word indirect current offset p }
 {

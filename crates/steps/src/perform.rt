@@ -69,9 +69,7 @@ fn perform(
         Action::At(way, from) => go_way(way, from, r, pages, memory),
         Action::ShiftRotate(fields) => Ok(shift_rotate(fields, r)),
         Action::AlterSkip(fields) => Ok(alter_skip(fields, r)),
-        Action::InputOutput(operation, bit11, bit9, select) => {
-            input_output(operation, bit11, bit9, select, r)
-        }
+        Action::InputOutput(fields) => input_output(fields, r),
         Action::LongShift(kind, places) => Ok(long_rotate(kind, places, r)),
         Action::CopyToIndex(g, i) => Ok(copy_to_index(g, i, r)),
         Action::CopyFromIndex(g, i) => Ok(copy_from_index(g, i, r)),

@@ -29,10 +29,10 @@ static CLASSES: [Class; 7] = [
 impl From<Instruction> for Class {
     fn from(instruction: Instruction) -> Class {
         match instruction {
-            Instruction::MemoryReference { .. } => Class::MemoryReference,
+            Instruction::MemoryReference(_) => Class::MemoryReference,
             Instruction::ShiftRotate(_) => Class::ShiftRotate,
             Instruction::AlterSkip(_) => Class::AlterSkip,
-            Instruction::InputOutput { .. } => Class::InputOutput,
+            Instruction::InputOutput(_) => Class::InputOutput,
             Instruction::Extended(_) => Class::Extended,
             Instruction::LongShift { .. } => Class::LongShift,
             Instruction::NotBuilt(_) => Class::NotBuilt,

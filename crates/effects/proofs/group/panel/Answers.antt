@@ -17,21 +17,21 @@ pub returns-in-Sfs : goal.returns-in-Sfs
 unfolding exec panel_act
 returns-in-Sfs c = rw (c.in-Sfs.is, c.test_overflow-in-Sfs.ensures) (λ pages m. record { outcome = refl; memory = refl })
 
-pub returns-then-bit9 : goal.returns-then-bit9
+pub returns-then-io : goal.returns-then-io
 unfolding exec panel_act
-returns-then-bit9 c = rw (c.in-Lia.is, c.if-bit9.true) (λ pages m. record { outcome = refl; memory = refl })
+returns-then-io c = rw (c.in-Lia.is, c.if-io.true) (λ pages m. record { outcome = refl; memory = refl })
 
-pub returns-else-bit9 : goal.returns-else-bit9
+pub returns-else-io : goal.returns-else-io
 unfolding exec panel_act
-returns-else-bit9 c = rw (c.in-Lia.is, c.if-bit9.false, c.take_switches.ensures, c.register_of.ensures) (λ pages m. record { outcome = refl; memory = refl })
+returns-else-io c = rw (c.in-Lia.is, c.if-io.false, c.take_switches.ensures, c.register_of.ensures) (λ pages m. record { outcome = refl; memory = refl })
 
-pub returns-then-bit9-2 : goal.returns-then-bit9-2
+pub returns-then-io-2 : goal.returns-then-io-2
 unfolding exec panel_act
-returns-then-bit9-2 c = rw (c.in-Ota.is, c.if-bit9-2.true) (λ pages m. record { outcome = refl; memory = refl })
+returns-then-io-2 c = rw (c.in-Ota.is, c.if-io-2.true) (λ pages m. record { outcome = refl; memory = refl })
 
-pub returns-else-bit9-2 : goal.returns-else-bit9-2
+pub returns-else-io-2 : goal.returns-else-io-2
 unfolding exec panel_act
-returns-else-bit9-2 c = rw (c.in-Ota.is, c.if-bit9-2.false, c.put_lights.ensures, c.register_of-in-Ota.ensures) (λ pages m. record { outcome = refl; memory = refl })
+returns-else-io-2 c = rw (c.in-Ota.is, c.if-io-2.false, c.put_lights.ensures, c.register_of-in-Ota.ensures) (λ pages m. record { outcome = refl; memory = refl })
 
 pub returns-in-Hlt : goal.returns-in-Hlt
 unfolding exec panel_act

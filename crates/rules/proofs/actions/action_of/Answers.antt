@@ -5,7 +5,7 @@ use Rattle.rules.proofs.actions.action_of.Goals as goal
 
 pub returns-then-word-ge2 : goal.returns-then-word-ge2
 unfolding reading memory_reference
-returns-then-word-ge2 c = rw (reading, le-leb _ _ c.if-word-ge2.true, memory_reference, ← c.operation_at.ensures, c.reference.ensures)
+returns-then-word-ge2 c = rw (reading, le-leb _ _ c.if-word-ge2.true, memory_reference, c.reference.ensures, c.memory_reference_of.ensures)
 
 pub returns-in-MemoryReference : goal.returns-in-MemoryReference
 returns-in-MemoryReference c = rw (← c.read_instruction.ensures, c.in-MemoryReference.is, c.reference-in-MemoryReference.ensures)
