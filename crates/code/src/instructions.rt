@@ -181,7 +181,8 @@ fn read_input_output(word: u16) -> Instruction
     })
 }
 
-// The count of a long shift: its low four bits, 0 means 16.
+// The count of a long shift: its low four bits, 0 means 16. The long shifts of word have their own; the edit count_of_0
+// is of this one.
 fn places_of(word: u16) -> u16
     ensures { result ≡ places word }
 {

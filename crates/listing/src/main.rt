@@ -1,4 +1,4 @@
-// The listing of the image on standard input.
+// The listing of the image on standard input. The three listings are a crate each, as a crate is run on one input.
 #![tactic(auto)]
 
 use std::io;

@@ -5,7 +5,7 @@ ghost use Rattle.maps.specs.Access.{fetched, Stored};
 use crate::pages::{Map, Maps, Place, Purpose};
 use crate::troubles::Trouble;
 
-// The word at an index is written, and no other.
+// The word at an index is written, and no other: a function of its own, at whose promise a store of two words is refused.
 fn set_word(memory: &mut [u16], index: usize, value: u16)
     requires { index < length memory.old }
     ensures { memory.new ≡ set memory.old index value }

@@ -84,7 +84,8 @@ impl Element {
         }
     }
 
-    // One element after another, each seeing the earlier stores.
+    // One element after another, each seeing the earlier stores. The bound, here and below, ties three numbers to memory as
+    // lent, which no type holds without the loan.
     #[tactic(auto, using(crate::proofs::Copying::copied_on), unfolding(crate::specs::Copies::copies))]
     fn copy_each(self, source: usize, target: usize, n: u16, memory: &mut [u16])
         requires { (source + n ≤ places_in self memory.old) × (target + n ≤ places_in self memory.old) }
@@ -234,7 +235,8 @@ impl Span {
     }
 }
 
-// What is moved, from where to where, each through a map, and how many of it.
+// What is moved, from where to where, each through a map, and how many of it: both ranges have one element and one count, so
+// that they are not two spans.
 #[derive(Clone, Copy, Debug, PartialEq, Eq)]
 pub struct Move {
     pub element: Element,

@@ -4,7 +4,8 @@ ghost use Rattle.std.specs.Prelude.{◌≤◌};
 use acts::record::Registers;
 use std::array;
 
-// Memory, page registers and the record, and how many words of memory and page registers are lent.
+// Memory, page registers and the record, and how many words of memory and page registers are lent: what is not lent is
+// compared afterwards too.
 #[derive(Drop)]
 pub(crate) struct Start {
     pub(crate) memory: [u16; 32768],

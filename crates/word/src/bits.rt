@@ -1,4 +1,5 @@
-// The logical operations, bytes, and the bits that a mask names.
+// The logical operations, bytes, and the bits that a mask names. Those that are one operation of the language stand under the
+// names that docs/PROMISES.md has with their theorems.
 ghost use Rattle.std.specs.Prelude.{◌≡◌, bit_and, bit_or, bit_xor};
 ghost use Rattle.word.specs.Words.{weight, complemented, byte_of, with_byte, bits_cleared, every_bit_set};
 
