@@ -19,7 +19,7 @@ pub extern "C" fn a400_fresh(words: &mut [u16]) -> u32
     0
 }
 
-// The reply's number, and the count.
+// The reply's number, and the count: what goes back to C.
 #[derive(Clone, Copy)]
 struct Made {
     reply: u32,

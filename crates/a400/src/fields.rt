@@ -17,7 +17,8 @@ use word::long::LongShift;
 // How many fields an instruction has.
 const FIELDS: usize = 10;
 
-// The long shifts and their numbers; the other choices are in `code`. A number past the last gives the last.
+// The long shifts and their numbers; the other choices are in `code`. A number past the last gives the last, so that no TryFrom would
+// fail; and a `From` for u16 may stand in the enum's own crate alone.
 
 fn long_number(shift: LongShift) -> u16
     ensures { result ≡ long_kind shift }

@@ -65,6 +65,7 @@ impl Registers {
         }
     }
 
+    // A and B here, X and Y below: the fields differ, and a trait over the four would have the same arms.
     pub fn register(self, g: Register) -> u16
         ensures { result ≡ in_register g self }
     {
@@ -132,13 +133,14 @@ impl Registers {
     pub fn interrupted(self) -> Registers
         ensures { result ≡ interrupted self }
     {
-        let mut s = self;
-        s.violation = self.p;
-        s.interrupt = 7;
-        s.imap = self.wmap;
-        s.wmap = switch_maps(self.wmap);
-        s.trap = 7;
-        s
+        Registers {
+            violation: self.p,
+            interrupt: 7,
+            imap: self.wmap,
+            wmap: switch_maps(self.wmap),
+            trap: 7,
+            ..self
+        }
     }
 
     // Whether every register is in its range, and no trap waits with protection on.

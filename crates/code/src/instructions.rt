@@ -181,8 +181,8 @@ fn read_input_output(word: u16) -> Instruction
     })
 }
 
-// The count of a long shift: its low four bits, 0 means 16. The long shifts of word have their own; the edit count_of_0
-// is of this one.
+// The count of a long shift: its low four bits, 0 means 16. A field of an instruction; word's own makes the type, with its
+// bounds, that its shifts take.
 fn places_of(word: u16) -> u16
     ensures { result ≡ places word }
 {

@@ -1,4 +1,5 @@
-// The instructions that touch no memory: shift/rotate, alter/skip, long shifts, index registers, I/O.
+// The instructions that touch no memory: shift/rotate, alter/skip, long shifts, index registers, I/O. Of frequent ones the registers
+// are set one by one, for the time it takes: see acts::record. A byte is the cast of a word's part that fits it.
 ghost use Rattle.std.specs.Prelude.{◌≡◌, not, ◌&&◌, ◌+◌, ◌*◌, ◌%◌};
 ghost use Rattle.word.specs.Words.{bit, weight};
 ghost use Rattle.effects.specs.Group.{shift_place, shift_rotated, altered, extend_altered, pair_met, alter_skips, alter_ended, alter_skipped};

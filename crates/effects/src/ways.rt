@@ -54,6 +54,8 @@ pub enum Way {
     JumpSaving,
 }
 
+// Registers are set one by one here, for the time it takes: see acts::record.
+
 // E and O by a sum: neither is cleared.
 pub fn set_flags(t: Sum, r: Registers) -> Registers
     ensures { result ≡ flagged t r }
@@ -183,7 +185,7 @@ pub(crate) fn load_double(
     Ok(Registers { a, b, ..r }.ahead(words))
 }
 
-// A word is stored at a place that was tested.
+// A word is stored at a place that was tested. Maps::store tests it, and goes for one word alone.
 fn store_at(place: Place, value: u16, s: Registers, memory: &mut [u16]) -> Registers
     requires { (i : ℕ) → place ≡ Where.Memory i → i < length memory.old }
     ensures { (result ≡ registers_at place value s) × (memory.new ≡ memory_at place value memory.old) }

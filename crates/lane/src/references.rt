@@ -54,7 +54,7 @@ pub(crate) fn take(
     Some(taking.apply(v, 1, r))
 }
 
-// A word is stored in memory. One that goes to A or B is left.
+// A word is stored in memory. One that goes to A or B is left. WMAP and page registers are told apart, as the caller has them.
 #[tactic(auto, using(crate::proofs::Ways::below, crate::proofs::Ways::placed))]
 fn store(value: u16, at: u16, wmap: u16, pages: &[u16], memory: &mut [u16]) -> Option<()>
     ensures { Keeps pages.now wmap at value memory.old result memory.new }

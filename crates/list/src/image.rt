@@ -28,7 +28,7 @@ fn word_at(bytes: &[u8], i: usize) -> u16
     u16::from_be_bytes([byte_at(bytes, 2 * i), byte_at(bytes, 2 * i + 1)])
 }
 
-// The first 8 pages of the words of bytes.
+// The first 8 pages of the words of bytes. A loop: from_fn's promise does not tie its closure to bytes that it captures.
 pub fn image_words(bytes: &[u8]) -> [u16; 8192]
     ensures { result ≡ tabulated (image_word bytes.now) 8192 }
 {

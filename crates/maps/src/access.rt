@@ -14,7 +14,7 @@ fn set_word(memory: &mut [u16], index: usize, value: u16)
 }
 
 impl<'a> Maps<'a> {
-    // The word at an address. `a` and `b` are the words that A and B hold.
+    // The word at an address. `a` and `b` are the words that A and B hold, as the record stands above this layer.
     #[tactic(auto, using(crate::proofs::Laws::place_below), unfolding(crate::specs::Access::fetched))]
     pub fn read(
         self,

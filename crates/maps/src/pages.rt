@@ -29,7 +29,8 @@ pub enum Place {
     Memory(usize),
 }
 
-// Page registers and WMAP: what tells where a logical address leads.
+// Page registers and WMAP: what tells where a logical address leads. It is written out where it is used: a function that made it
+// would promise its two fields, and each user's proof would cite them.
 #[derive(Clone, Copy)]
 pub struct Maps<'a> {
     pub pages: &'a [u16],
@@ -115,7 +116,8 @@ impl<'a> Maps<'a> {
         !(is_protecting(self.wmap) && purpose.is_closed_by(register))
     }
 
-    // The test of presence alone, for a memory of `length` words.
+    // The test of presence alone, for a memory of `length` words. `place` has it again, after the test of protection: the edit
+    // presence_before_protection exchanges the two there.
     #[tactic(auto, unfolding(crate::specs::Pages::presence))]
     pub fn presence(self, map: Map, address: u16, length: usize) -> Result<(), Trouble>
         ensures { result ≡ presence self.entry.pages.now self.entry.wmap map address length }

@@ -8,7 +8,6 @@ ghost use Rattle.octal.specs.Digits.{octal_digits, bit_digit};
 
 use std::fmt;
 
-// The bytes that an Octal prints.
 // The digits as bytes, as `Octal` and `Bit` print them: docs/PROMISES.md has both with their theorems.
 
 pub fn word_digits(w: u16) -> [u8; 6]

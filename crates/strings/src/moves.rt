@@ -85,7 +85,7 @@ impl Element {
     }
 
     // One element after another, each seeing the earlier stores. The bound, here and below, ties three numbers to memory as
-    // lent, which no type holds without the loan.
+    // lent, which no type holds without the loan. By an index, as no iterator lends one slice to read and to write.
     #[tactic(auto, using(crate::proofs::Copying::copied_on), unfolding(crate::specs::Copies::copies))]
     fn copy_each(self, source: usize, target: usize, n: u16, memory: &mut [u16])
         requires { (source + n ≤ places_in self memory.old) × (target + n ≤ places_in self memory.old) }

@@ -129,7 +129,7 @@ pub fn load_byte(r: Registers, pages: &[u16], memory: &[u16]) -> Result<Register
     )
 }
 
-// SBT: the other half of the word stays.
+// SBT: the other half of the word stays. The byte is the cast of what fits it.
 #[tactic(auto, using(maps::proofs::Laws::place_below, crate::proofs::Bytes::byte_stored_lem))]
 pub fn store_byte(r: Registers, pages: &[u16], memory: &mut [u16]) -> Result<Registers, Stop>
     ensures { Performs pages.now (byte_stored r) r memory.old result memory.new }

@@ -1,4 +1,4 @@
-// Comparing: signed words, unsigned bytes.
+// Comparing: signed words, unsigned bytes, under the names that docs/PROMISES.md has.
 ghost use Rattle.std.specs.Prelude.{◌≡◌};
 ghost use Rattle.word.specs.Orders.{order_of_words, order_of_bytes};
 

@@ -34,7 +34,7 @@ fn word_of(z: i32) -> Option<u16>
     i16::try_from(z).ok().map(i16::cast_unsigned)
 }
 
-// The division proper: one machine division gives the quotient and the remainder.
+// The division proper: one machine division gives the quotient and the remainder, where checked_div beside `%` takes two.
 fn division(z: i32, k: i16) -> Option<Quotient>
     requires divisor { k ≢ pos 0 }
     requires fits { within w32 (int_div z k) ≡ true }

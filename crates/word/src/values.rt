@@ -1,5 +1,5 @@
 // The signed value of a word and of a double word, the bits of a value, and two words joined and
-// parted again.
+// parted again: one operation of the language each, under the names that docs/PROMISES.md has.
 ghost use Rattle.std.specs.Prelude.{◌≡◌, ◌/◌, ◌%◌};
 ghost use Rattle.std.specs.Int.{w16, w32};
 ghost use Rattle.word.specs.Words.{joined};
