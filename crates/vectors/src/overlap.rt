@@ -77,7 +77,7 @@ fn words(rt: &impl Print, label: &str, from: u16, n: u8) -> io::Result<()> {
     print(rt, label, n, wrong)
 }
 
-// The high byte comes first.
+// The high byte comes first. The program's own, as what it expects is not to come from the functions that it tries.
 fn byte_of(word: u16, is_low: bool) -> u8 {
     let [high, low] = word.to_be_bytes();
     if is_low { low } else { high }
