@@ -3,7 +3,7 @@
 --     kind_at      the kind at a number
 --     at_number    each kind is the one at its number
 -- Assumes nothing.
-use Rattle.std.proofs.Common.{◌≡◌, ℕ, ◌/◌, ◌%◌, Bool, true, List, [], ◌∷◌, get_or, T, eqb-true}
+use Rattle.std.proofs.Common.{◌≡◌, ℕ, ◌/◌, ◌%◌, Bool, true, [], ◌∷◌, get_or, T, eqb-true}
 use Rattle.word.specs.declared.long.LongShift.{LongShift}
 use Rattle.word.specs.declared.long.LongShift.TheVariants.{Asl, Lsl, Rrl, Asr, Lsr, Rrr}
 use Rattle.code.specs.declared.codes.Index.{Index}
