@@ -26,7 +26,7 @@ one_digit (Refused NotBuilt) = omega arith
 one_digit (Refused TrapCell) = omega arith
 one_digit BadCall = omega arith
 
-pub room : (s : Ran) → s.count < 2 ^ 32 → length (header ++ line_of s) ≤ 80
+room : (s : Ran) → s.count < 2 ^ 32 → length (header ++ line_of s) ≤ 80
 unfolding line_of
 room s h =
     let n = number s.reply in
