@@ -33,8 +33,8 @@ room s h =
     simp length-append
     (omega (arith, most_digits 0 (suc n) n (one_digit s.reply), most_digits 9 (suc s.count) s.count (omega arith)))
 
-pub whole : {t u v : InlineText 80} (s : Ran) → s.count < 2 ^ 32 → inline_text t ≡ [] → Appends t header u → Appends u (line_of s) v
-    → inline_text v ≡ header ++ line_of s
+pub whole : {t u v : InlineText 80} (s : Ran) → s.count < 2 ^ 32 → inline_text t ≡ []
+    → Appends t header u → Appends u (line_of s) v → inline_text v ≡ header ++ line_of s
 whole {t = t} {v = v} s h blank first second =
     let both : Appends t (header ++ line_of s) v = joined first second in
     rw blank at (both.if_room (omega (arith, ap length blank, room s h)))

@@ -21,7 +21,12 @@ use Rattle.list.specs.Text.{Appends, digit, digits_within, decimal_digits}
 
 pub uncut : (t : InlineText 80) (l : List ℕ) (u : InlineText 80) → inline_text u ≡ cut_to 80 (inline_text t ++ l) → Appends t l u
 unfolding cut_to
-uncut t l u e = record { if_room = λ h. e ∙ rw (le-leb (length (inline_text t ++ l)) 80 (omega (arith, length-append (inline_text t) l))) refl }
+uncut t l u e =
+    record {
+      if_room = λ h.
+          let fits : length (inline_text t ++ l) ≤ 80 = omega (arith, length-append (inline_text t) l) in
+          e ∙ rw (le-leb (length (inline_text t ++ l)) 80 fits) refl;
+    }
 
 pub joined : {t u v : InlineText 80} {l m : List ℕ} → Appends t l u → Appends u m v → Appends t (l ++ m) v
 joined {t = t} {u = u} {v = v} {l = l} {m = m} p q =

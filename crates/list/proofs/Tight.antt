@@ -40,7 +40,8 @@ pub list_image_tight : OneResult 1 list_image.ps list_image.r list_image_reads.P
 list_image_tight κs a x y s t p q = ap (λ (r : Ran). record { 0 = r }) (p.0 ∙ sym q.0)
 
 -- with text: the bytes of an image's listing are fixed
-pub listing_tight : (κs : Lfts 1) (a : Dens κs list_image.ps) (x : (res_t list_image.r κs).Denot) (s : AtExit (ended_of 1 list_image.ps list_image.r) κs)
+pub listing_tight : (κs : Lfts 1) (a : Dens κs list_image.ps) (x : (res_t list_image.r κs).Denot)
+    (s : AtExit (ended_of 1 list_image.ps list_image.r) κs)
     → list_image_reads.Post κs a x s
     → (ιs : Lfts 0) (b : Dens ιs text.ps) (y : (res_t text.r ιs).Denot) (t : AtExit (ended_of 0 text.ps text.r) ιs)
     → text_reads.Post ιs b y t → b.0 ≡ x → inline_text y ≡ listing a.0.now
