@@ -4,6 +4,7 @@
 --     Search          the search of a table
 --     Rising          the row of a word by halving
 --     Table           each kind is found in the table, and has its own number
+--     Numbers         from the number of a kind back to the kind
 --     Picks           the fields that are a choice, and their numbers
 --     Fields          the groups that their leading bits decide, written and read again
 --     Rows            the extended group, written and read again
@@ -15,6 +16,7 @@ pub mod Digits
 pub mod Search
 pub mod Rising
 pub mod Table
+pub mod Numbers
 pub mod Picks
 pub mod Fields
 pub mod Rows

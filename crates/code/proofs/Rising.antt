@@ -1,7 +1,8 @@
 -- The rows of the table stand by rising code, and the words of a row end before those of the next begin.
 --     span, clean                 how many words a row has; that a long shift's code has no count in it
 --     risen                       the codes of the rows rise
---     sought_none, sought_last    so the row of a word, if one has it, is the last whose code is not past the word
+--     asked                       so a row that covers a word is the word's row
+--     sought_none, sought_last    and the row of a word, if one has it, is the last whose code is not past the word
 -- Assumes nothing.
 use Prim.Native.Nat.{ℕ, zero-le, zero, suc, ◌+◌, ◌-◌, ◌/◌, ◌%◌, ◌≤◌, ◌<◌}
 use native.Mathlib.Omega.{arith}
@@ -14,6 +15,7 @@ use lib.ListN.{length, get_or}
 use borrow.Author.Tests.{eqb-true, leb-true, leb-false, ne_eqb}
 use Rattle.std.specs.Prelude.{Option, Some, None, find, ◌⊎◌}
 use Rattle.std.specs.Bool.{then_some}
+use Rattle.std.specs.List.{slice_get}
 use Rattle.std.specs.List.Sorted.{IsNonDecreasingBy, IsPartitionPoint}
 use Rattle.std.proofs.Common.{inl, inr}
 use Rattle.word.specs.declared.long.LongShift.TheVariants.{Asl}
@@ -124,6 +126,21 @@ module _ (w : ℕ) where
       let to : f.code ≤ w = l 1 (omega arith) in
       rw (outside w e.code e.kind e refl refl s.cleaned (inr (omega arith)), find)
       (last (e.code + span e.kind) (f ∷ fs) (suc k) d s.onward (λ i p. l (suc i) (omega arith)) (λ i p q. h (suc i) (omega arith) (omega arith)) (le_of_suc-le-suc b))
+
+  found : (n : ℕ) (es : List Entry) (k : ℕ) (r : Entry) → T (rising n es) → slice_get es k ≡ Some r → covers w r ≡ true → find (covers w) es ≡ Some r
+  found n [] k r t g c = cc
+  found n (e ∷ es) zero r t g c = let e≡r : e ≡ r = cc in rw (e≡r, c, find) refl
+  found n (e ∷ es) (suc k) r t g c =
+      let s = step n e es t in
+      go (leb (e.code + span e.kind) w) refl s (found (e.code + span e.kind) es k r s.onward g c)
+    where
+      go : (b : Bool) → leb (e.code + span e.kind) w ≡ b → Step n e es → find (covers w) es ≡ Some r → find (covers w) (e ∷ es) ≡ Some r
+      go true h s rest = rw (outside w e.code e.kind e refl refl s.cleaned (inr (leb-true (e.code + span e.kind) w h)), find) rest
+      go false h s rest = let no = none (e.code + span e.kind) es s.onward (leb-false (e.code + span e.kind) w h) in cc
+
+  pub asked : (k : ℕ) (r : Entry) → slice_get rows k ≡ Some r → covers w r ≡ true → Some r ≡ find_word w
+  unfolding find_word
+  asked k r g c = sym (found 0 rows k r all_rising g c)
 
   module _ (k : ℕ) (point : IsPartitionPoint (λ e. leb e.code w ≡ true) (λ e. leb e.code w ≡ false) rows k) (within : k ≤ length rows) where
     sought : (d : Entry) → find (covers w) rows ≡ last_of k rows d

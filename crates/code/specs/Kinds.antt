@@ -4,7 +4,7 @@
 --     number                   of a kind
 --     same                     whether two kinds are the same, told by their numbers
 --     registers, register_at   A and B in their order, and the register at a number
--- That no two kinds have the same number is in proofs/Table.antt. The table is in Codes. Assumes nothing.
+-- That no two kinds have the same number is in proofs/Table.antt, the way back in Numbers.antt. The table is in Codes. Assumes nothing.
 use Rattle.std.specs.Prelude.{ℕ, ◌+◌, Bool, List, [], ◌∷◌, eqb, get_or}
 use Rattle.word.specs.declared.long.LongShift.{LongShift}
 use Rattle.word.specs.declared.long.LongShift.TheVariants.{Asl, Lsl, Rrl, Asr, Lsr, Rrr}

@@ -239,11 +239,38 @@ impl Entry {
     }
 }
 
-// The codes rise, and no row has a word of the next one's: a word's row is the last whose code is not past it. A walk over
-// the rows by `find` takes a short move half as long again.
+// Where most words have their row: the numbers of the rows of 1017xx, and then of 1057xx, by the last two digits, and 0 where
+// there is none. A wrong number costs time alone, as the row is asked.
+static HINTS: [[u8; 8]; 16] = [
+    [0, 0, 0, 0, 0, 0, 0, 0],
+    [0, 0, 0, 0, 0, 0, 0, 0],
+    [0, 8, 9, 10, 11, 12, 13, 0],
+    [0, 0, 0, 0, 0, 0, 0, 0],
+    [14, 15, 16, 0, 17, 0, 0, 18],
+    [19, 20, 21, 0, 22, 0, 0, 23],
+    [0, 0, 0, 0, 0, 0, 0, 0],
+    [0, 0, 0, 0, 0, 0, 0, 0],
+    [0, 0, 0, 0, 0, 0, 0, 0],
+    [0, 0, 0, 0, 0, 0, 0, 0],
+    [0, 26, 27, 28, 29, 30, 31, 0],
+    [0, 0, 0, 0, 0, 0, 0, 0],
+    [32, 33, 34, 35, 36, 37, 38, 39],
+    [40, 41, 42, 43, 44, 45, 46, 47],
+    [48, 49, 0, 50, 51, 52, 53, 0],
+    [54, 55, 0, 56, 57, 58, 59, 60],
+];
+
+// The codes rise, and no row has a word of the next one's: a row that covers the word is its row, and the last row whose code
+// is not past the word is the only other one to ask. By the halving alone a step with an extended code takes a fifth longer.
 pub fn find_word(word: u16) -> Option<Entry>
     ensures { result ≡ find_word word }
 {
+    let hint = HINTS[usize::from(word / 0o4000 % 2 * 8 + word / 8 % 8)][usize::from(word % 8)];
+    if let Some(row) = TABLE.get(usize::from(hint))
+        && row.covers(word)
+    {
+        return Some(*row);
+    }
     let end = TABLE.partition_point(|row| row.code <= word);
     if end == 0 {
         return None;

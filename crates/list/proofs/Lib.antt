@@ -1,7 +1,7 @@
 -- Laws of a listing that belong to no one function. Assumes nothing.
 --     Tables    a table's first words; which lengths are run
---     Texts     a number in decimal
---     Lines     a run's line, as it is written
+--     Texts     bytes put at the end of a text, and a number in decimal
+--     Lines     a text has room for a listing
 --     Cases     lines worked out by hand
 --     Tight     each promise fixes its result
 pub mod Tables

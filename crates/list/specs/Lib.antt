@@ -1,6 +1,6 @@
 -- What a listing means. Assumes nothing.
 --     Image    the image, its run, and the answer
---     Text     bytes put one after the other; a number in decimal
+--     Text     bytes at the end of a text; a number in decimal
 --     Line     the bytes that are printed
 pub mod Image
 pub mod Text

@@ -4,3 +4,4 @@
 pub mod image;
 pub mod line;
 pub mod show;
+pub mod text;

@@ -8,5 +8,6 @@ use std::io::Input;
 pub fn list_input(rt: &(impl Input + Print)) -> io::Result<()> {
     let mut bytes = [0u8; 16385];
     let n = read_full(&mut rt.reader(), &mut bytes)?;
-    rt.print(list_image(&bytes[..n]))
+    let text = list_image(&bytes[..n]).text();
+    rt.write_all(text.as_str().as_bytes())
 }

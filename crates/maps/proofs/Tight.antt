@@ -1,5 +1,5 @@
 -- Each promise fixes its outcome: two outcomes that satisfy a function's own contract, as its `Reads` has it, are equal.
--- A function that lends nothing to be written has `OneResult` of the word layer. store_word, the only other, has in
+-- A function that lends nothing to be written has `OneResult` of the word layer. Maps::store, the only other, has in
 -- store_tight the later memory beside the result. In the order of src/: pages, access, chains, bytes.
 -- Assumes nothing.
 use borrow.Fn.Kinds.{ended_of, res_t, Dens}

@@ -219,6 +219,8 @@ pub fn mask_bits(
     put_masked(x, mask, w, at, r, pages, memory)
 }
 
+// Drawn into its caller, as put and put_last are: called, they made SBS and CBS take four tenths longer.
+#[inline(always)]
 #[tactic(auto, unfolding(acts::specs::Acts::exec))]
 fn put_masked(
     x: Bits,

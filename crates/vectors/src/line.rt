@@ -174,19 +174,82 @@ impl Next {
     }
 }
 
-// Sets what a line says, and gives what is to be done, if it is a vector.
-pub(crate) fn read(line: &[u8], start: &mut Start) -> Option<Command> {
-    let mut next = Next::Nothing;
-    for token in line.split(|c| *c == b' ').filter(|token| !token.is_empty()) {
-        next = match token[0] {
-            b'A'..=b'Z' => next.after_word(token)?,
-            b'0'..=b'9' => next.after_number(token, start)?,
-            _ => return None,
-        };
+// A word or a number as far as it has been read. Zeros before a number are passed over, and of the rest the first eleven bytes tell
+// what it is: no word has more than four letters, and no number more than ten digits. So what is kept of a line is bounded, however
+// long the line is; in a buffer that grows with it memory could run out.
+#[derive(Clone, Copy)]
+struct Token {
+    bytes: [u8; 11],
+    length: usize,
+    ghost within: { length ≤ 11 },
+}
+
+impl Token {
+    fn empty() -> Token {
+        Token {
+            bytes: [0; 11],
+            length: 0,
+        }
     }
-    match next {
-        Next::Step => Some(Command::Step),
-        Next::Run(Some(budget)) => Some(Command::Run(budget)),
-        _ => None,
+
+    fn text(&self) -> &[u8] {
+        &self.bytes[..self.length]
+    }
+
+    fn push(&mut self, c: u8) {
+        if c.is_ascii_digit() && self.text() == b"0".as_slice() {
+            self.length = 0;
+        }
+        if self.length < 11 {
+            self.bytes[self.length] = c;
+            self.length += 1;
+        }
+    }
+}
+
+// What stands behind a line's colon, as far as it has been read: None in `next` where it is no vector's.
+#[derive(Clone, Copy)]
+pub(crate) struct Body {
+    token: Token,
+    next: Option<Next>,
+}
+
+impl Body {
+    pub(crate) fn empty() -> Body {
+        Body {
+            token: Token::empty(),
+            next: Some(Next::Nothing),
+        }
+    }
+
+    // Sets what a byte more says.
+    pub(crate) fn take(&mut self, c: u8, start: &mut Start) {
+        if c == b' ' {
+            self.end_token(start);
+        } else {
+            self.token.push(c);
+        }
+    }
+
+    fn end_token(&mut self, start: &mut Start) {
+        let token = self.token;
+        if let (Some(first), Some(next)) = (token.text().first(), self.next) {
+            self.next = match *first {
+                b'A'..=b'Z' => next.after_word(token.text()),
+                b'0'..=b'9' => next.after_number(token.text(), start),
+                _ => None,
+            };
+        }
+        self.token = Token::empty();
+    }
+
+    // What is to be done at the line's end, if it is a vector's.
+    pub(crate) fn end(&mut self, start: &mut Start) -> Option<Command> {
+        self.end_token(start);
+        match self.next? {
+            Next::Step => Some(Command::Step),
+            Next::Run(Some(budget)) => Some(Command::Run(budget)),
+            _ => None,
+        }
     }
 }

@@ -1,5 +1,5 @@
 // The vectors of standard input, each one step or one run, a line of output for each.
-use crate::line::read;
+use crate::line::Body;
 use crate::show::{Listed, print_changes};
 use crate::start::{Command, Start};
 use octal::input::read_full;
@@ -32,55 +32,88 @@ fn perform(rt: &impl Print, start: &Start, command: Command) -> io::Result<()> {
     rt.write_all(b"\n")
 }
 
-// A line up to its colon, and what is behind that. A comment has neither.
-fn parts(line: &[u8]) -> (&[u8], Option<&[u8]>) {
-    if line.first() == Some(&b'#') {
-        return (&[], None);
-    }
-    match line.iter().position(|c| *c == b':') {
-        Some(colon) => {
-            let (name, body) = line.split_at(colon + 1);
-            (name, Some(body))
-        }
-        None => (line, None),
-    }
+// Where in a line its bytes are.
+#[derive(Clone, Copy, PartialEq, Eq)]
+enum Place {
+    Start,
+    Name,
+    Body,
+    Comment,
 }
 
-fn take_line(rt: &impl Print, line: &[u8]) -> io::Result<()> {
-    let (name, body) = parts(line);
-    rt.write_all(name)?;
-    let Some(body) = body else {
-        return if name.is_empty() {
-            Ok(())
-        } else {
-            rt.write_all(b": not a vector\n")
-        };
-    };
-    let mut start = Start::fresh();
-    match read(body, &mut start) {
-        Some(command) => perform(rt, &start, command),
-        None => rt.write_all(b" not a vector |\n"),
+// The line that is being read. Its name is written as it comes; a comment is passed over.
+#[derive(Drop)]
+struct Line {
+    place: Place,
+    body: Body,
+    start: Start,
+}
+
+impl Line {
+    fn empty() -> Line {
+        Line {
+            place: Place::Start,
+            body: Body::empty(),
+            start: Start::fresh(),
+        }
+    }
+
+    fn take(&mut self, rt: &impl Print, part: &[u8]) -> io::Result<()> {
+        let mut rest = part;
+        if self.place == Place::Start {
+            match part.first() {
+                None => return Ok(()),
+                Some(b'#') => self.place = Place::Comment,
+                Some(_) => self.place = Place::Name,
+            }
+        }
+        if self.place == Place::Name {
+            let Some(colon) = rest.iter().position(|c| *c == b':') else {
+                return rt.write_all(rest);
+            };
+            let (name, body) = rest.split_at(colon + 1);
+            rt.write_all(name)?;
+            self.place = Place::Body;
+            rest = body;
+        }
+        if self.place == Place::Body {
+            for c in rest {
+                self.body.take(*c, &mut self.start);
+            }
+        }
+        Ok(())
+    }
+
+    fn end(&mut self, rt: &impl Print) -> io::Result<()> {
+        match self.place {
+            Place::Start | Place::Comment => Ok(()),
+            Place::Name => rt.write_all(b": not a vector\n"),
+            Place::Body => match self.body.end(&mut self.start) {
+                Some(command) => perform(rt, &self.start, command),
+                None => rt.write_all(b" not a vector |\n"),
+            },
+        }
     }
 }
 
 // A proved loop has to end, and nothing says that the input does: so it counts its turns down. Of a line that
 // is not read to its end only the name is printed.
-pub(crate) fn run_all(rt: &(impl Input + Print + AllocGlobal)) -> io::Result<()> {
-    let mut line = Vec::new(rt.alloc());
+pub(crate) fn run_all(rt: &(impl Input + Print)) -> io::Result<()> {
+    let mut line = Line::empty();
     let mut text = [0; 4096];
     for _ in 0..10000 {
         let n = read_full(&mut rt.reader(), &mut text)?;
         if n == 0 {
-            return take_line(rt, &line);
+            return line.end(rt);
         }
         for (i, part) in text[..n].split(|c| *c == b'\n').enumerate() {
             // what stands before is a whole line
             if i > 0 {
-                take_line(rt, &line)?;
-                line.clear();
+                line.end(rt)?;
+                line = Line::empty();
             }
-            line.extend_from_slice(part)?;
+            line.take(rt, part)?;
         }
     }
-    rt.write_all(parts(&line).0)
+    Ok(())
 }

@@ -1,6 +1,7 @@
 -- Laws of the word layer that belong to no one function.
 --     Weights     what a bit weighs
 --     Halves      parts that `|` puts together are a sum
+--     Carries     the carries into and out of bit 15 tell the overflow
 --     Signed      the signed reading, at any width
 --     Quotients   the laws of MPY and DIV
 --     Places      one place of a long shift after others
@@ -8,6 +9,7 @@
 --     Tight       each promise fixes its result
 pub mod Weights
 pub mod Halves
+pub mod Carries
 pub mod Signed
 pub mod Quotients
 pub mod Places

@@ -1,8 +1,8 @@
 -- Laws of the quotient toward zero and its remainder, and of the answers of MPY and DIV. In order:
---     again, remainder_sign, remainder_size, toward_zero     quotient times divisor plus remainder is the dividend; the
---                                                            remainder's sign and size; the quotient's size
---     product_fits, quotient_fits, remainder_fits            what fits a width
---     Divides, divided_value, multiplied_value               the answers, read as values
+--     again, remainder_sign, remainder_size, toward_zero           quotient times divisor plus remainder is the dividend; the
+--                                                                  remainder's sign and size; the quotient's size
+--     product_fits, quotient_fits, remainder_fits                  what fits a width
+--     Divides, quotient_value, divided_value, multiplied_value     the answers, read as values
 -- Not here: the signed reading (`Signed`); both ends of the range and 01's cases, computed (`Cases`). The definitions are in
 -- specs/ (`Products`). Assumes nothing.
 use Rattle.std.proofs.Common.{◌≡◌, ℕ, zero, suc, ◌-◌, ◌/◌, ◌%◌, ◌^◌, ◌<◌, ◌≤◌, Bool, true, false, cond, not, ◌&&◌, eqb, ◌⊎◌, ℤ, pos, negsuc, ◌+ℤ◌, ◌*ℤ◌, neg_ℤ, nat_abs, sym, refl, ap, ◌∙◌, inl, inr, zero-lt-suc, div-add-mod', div-le_self, arith, w16, w32, SFits, Some, None}
@@ -15,7 +15,7 @@ use mir.Val.{hbits}
 use mir.ValLaws.{to_z-Fits, to_z-of_z}
 use Rattle.word.specs.Words.{joined}
 use Rattle.word.specs.Signed.{signed, bits_of, within}
-use Rattle.word.specs.Products.{multiplied, divided}
+use Rattle.word.specs.Products.{multiplied, quotient_of, divided}
 use Rattle.word.specs.declared.products.Quotient.{Quotient}
 use Rattle.word.proofs.Signed.{of_value, one_word}
 
@@ -80,6 +80,15 @@ pub record Divides (z k q r : ℤ) : Type 0 where
   pub sign : (r ≡ pos 0) ⊎ (non_neg r ≡ non_neg z)
   pub size : nat_abs r < nat_abs k
 
+quotient_value : (z k : ℤ) (q r : ℕ) → SFits w16 k → (k ≡ pos 0 → ⊥) → within w16 (quot_z z k) ≡ true
+    → quotient_of z k ≡ Some (record { quotient = q; remainder = r }) → Divides z k (signed w16 q) (signed w16 r)
+quotient_value z k q r k-fits other q-fits e =
+    let is : ◌≡◌ {A = Quotient} (record { quotient = bits_of w16 (quot_z z k); remainder = bits_of w16 (rem_z z k) }) (record { quotient = q; remainder = r }) = cc in
+    let q-is : bits_of w16 (quot_z z k) ≡ q = ap (λ (x : Quotient). x.quotient) is in
+    let r-is : bits_of w16 (rem_z z k) ≡ r = ap (λ (x : Quotient). x.remainder) is in
+    rw (← q-is, ← r-is, of_value w16 (quot_z z k) q-fits, to_z-of_z w16 _ (remainder_fits w16 z k k-fits other))
+    (record { dividend = again z k; sign = remainder_sign z k; size = remainder_size z k other })
+
 -- what a test lets through
 pub held : {A : Type 0} {x y : A} (t : Bool) → Some y ≡ cond t (Some x) None → (t ≡ true) × (y ≡ x)
 held true e = (refl, cc)
@@ -95,8 +104,7 @@ divided_value b a m x m-fits e =
     = held (not (eqb m 0) && within w16 (quot_z z k)) (sym e) in
     let parts : (not (eqb m 0) ≡ true) × (within w16 (quot_z z k) ≡ true) = and_parts _ _ tested.0 in
     let some : k ≡ pos 0 → ⊥ = λ h. eqb-false m 0 (not-true _ parts.0) (one_word w16 m 0 m-fits (omega arith) h) in
-    rw (tested.1, of_value w16 (quot_z z k) parts.1, to_z-of_z w16 _ (remainder_fits w16 z k (to_z-Fits w16 m (record { fits = m-fits })) some))
-    (record { dividend = again z k; sign = remainder_sign z k; size = remainder_size z k some })
+    quotient_value z k x.quotient x.remainder (to_z-Fits w16 m (record { fits = m-fits })) some parts.1 (ap Some (sym tested.1))
 
 pub multiplied_value : (a m : ℕ) → a < 2 ^ 16 → m < 2 ^ 16
     → signed w32 (joined (multiplied a m).b (multiplied a m).a) ≡ signed w16 a *ℤ signed w16 m
