@@ -7,7 +7,6 @@ use maps::troubles::Trouble;
 use word::sums::past;
 
 // Where the word leads that follows the instruction's first by n.
-#[inline(always)]
 pub fn get_address(n: u16, r: Registers, pages: &[u16], memory: &[u16]) -> Result<u16, Trouble>
     ensures { Gives pages.now (operand n r) r memory.now result }
 {

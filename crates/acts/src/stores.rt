@@ -6,9 +6,7 @@ use crate::replies::Stop;
 use code::codes::Register;
 use maps::pages::{Map, Maps, Place};
 
-// A word is stored at an address. The registers are then r, but for what the store changes. Drawn into its callers, as put is: a
-// record that a call gives back is copied in pieces other than those that were written, for which the processor waits.
-#[inline(always)]
+// A word is stored at an address. The registers are then r, but for what the store changes.
 pub fn put_last(
     value: u16,
     map: Map,
@@ -31,7 +29,6 @@ pub fn put_last(
 }
 
 // A word is stored at an address, and P goes on elsewhere.
-#[inline(always)]
 pub fn put(
     value: u16,
     map: Map,

@@ -219,8 +219,6 @@ pub fn mask_bits(
     put_masked(x, mask, w, at, r, pages, memory)
 }
 
-// Drawn into its caller, as get_address is: called, they made SBS and CBS take four tenths longer.
-#[inline(always)]
 #[tactic(auto, unfolding(acts::specs::Acts::exec))]
 fn put_masked(
     x: Bits,
