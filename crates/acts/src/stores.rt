@@ -1,4 +1,4 @@
-// A store that is the last act of an instruction.
+// A store that is the last act of an instruction. Both functions are drawn into what stores: the record then stays in registers.
 ghost use Rattle.acts.specs.Acts.{Performs, save, fin, go_on};
 
 use crate::record::Registers;
@@ -7,6 +7,7 @@ use code::codes::Register;
 use maps::pages::{Map, Maps, Place};
 
 // A word is stored at an address. The registers are then r, but for what the store changes.
+#[inline(always)]
 pub fn put_last(
     value: u16,
     map: Map,
@@ -29,6 +30,7 @@ pub fn put_last(
 }
 
 // A word is stored at an address, and P goes on elsewhere.
+#[inline(always)]
 pub fn put(
     value: u16,
     map: Map,

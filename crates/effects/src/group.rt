@@ -184,15 +184,18 @@ fn is_halt(io: IoOperation) -> bool
 fn set_overflow(o: bool, r: Registers) -> Registers
     ensures { result ≡ ahead 1 (with_o r o) }
 {
-    Registers { o, ..r }.ahead(1)
+    let mut s = r;
+    s.o = o;
+    s.ahead(1)
 }
 
 // SFC and SFS 01: bit 9 clears O afterwards.
 fn test_overflow(skip: bool, bit9: bool, r: Registers) -> Registers
     ensures { result ≡ ahead (1 + weight skip) (with_o r (r.o && not bit9)) }
 {
-    let o = r.o & !bit9;
-    Registers { o, ..r }.skipping(1, skip)
+    let mut s = r;
+    s.o = r.o & !bit9;
+    s.skipping(1, skip)
 }
 
 // LIA 01: the switches in the high byte.
@@ -206,8 +209,9 @@ fn take_switches(g: Register, r: Registers) -> Registers
 fn put_lights(g: Register, r: Registers) -> Registers
     ensures { result ≡ ahead 1 (with_lights r (in_register g r % 256)) }
 {
-    let lights = (r.register(g) % 256) as u8;
-    Registers { lights, ..r }.ahead(1)
+    let mut s = r;
+    s.lights = (r.register(g) % 256) as u8;
+    s.ahead(1)
 }
 
 // Select code 01.

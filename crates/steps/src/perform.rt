@@ -85,7 +85,8 @@ fn perform(
     }
 }
 
-// The fetch, through Execute: at P, or at the waiting trap.
+// The fetch, through Execute: at P, or at the waiting trap. A call of its own: see machine's take_turn.
+#[inline(never)]
 pub fn fetch(r: Registers, pages: &[u16], memory: &mut [u16]) -> Result<Registers, Stop>
     ensures { Performs pages.now (step_act r) r memory.old result memory.new }
 {

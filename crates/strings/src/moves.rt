@@ -136,7 +136,9 @@ fn copy_bytes(source: usize, target: usize, n: u16, memory: &mut [u16])
     Element::Byte.copy_each(i + done, j + done, (n - head) % 2, memory);
 }
 
-// A stretch of elements, each seeing the earlier stores.
+// A stretch of elements, each seeing the earlier stores. A call: drawn into the step, its loops took up to twice as long, by what
+// else was drawn in there.
+#[inline(never)]
 fn copy_stretch(u: Element, source: usize, target: usize, n: u16, memory: &mut [u16])
     requires { (source + n ≤ places_in u memory.old) × (target + n ≤ places_in u memory.old) }
     ensures { memory.new ≡ copies u source target n memory.old }

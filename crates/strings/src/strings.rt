@@ -163,6 +163,8 @@ fn conclude(order: Ordering, at: u16, end: u16, r: Registers) -> Registers
 }
 
 // One pair after another, to the first difference. The loop yields the order and its place, which a `for` cannot.
+// A call, as copy_stretch is.
+#[inline(never)]
 #[tactic(auto, using(crate::proofs::Comparisons::went_on, crate::proofs::Comparisons::found, crate::proofs::Comparisons::ended), unfolding(crate::specs::Strings::comparing))]
 pub(crate) fn compare_strings(
     u: Element,
@@ -219,6 +221,8 @@ pub fn mask_bits(
     put_masked(x, mask, w, at, r, pages, memory)
 }
 
+// Drawn in, as `put` is.
+#[inline(always)]
 #[tactic(auto, unfolding(acts::specs::Acts::exec))]
 fn put_masked(
     x: Bits,
