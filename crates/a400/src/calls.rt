@@ -26,8 +26,8 @@ struct Made {
     count: u32,
 }
 
-// A run of the record in words. A step is a run of one: both go by this function, so that the machine's own are
-// drawn into it.
+// A run of the record in words. A step is a run of one: both go by this function, so that the machine's own, the
+// lane among them, are drawn into it, up to the fetch of a general step.
 fn call(words: &mut [u16], pages: &mut [u16], memory: &mut [u16], budget: u32) -> Made
     ensures { RunCalls (run_call words.old pages.old memory.old budget (0 ∷ [])) pages.old result.reply words.new pages.new memory.new (result.count ∷ []) }
 {

@@ -1,4 +1,4 @@
-// A store that is the last act of an instruction. Both functions are drawn into what stores: the record then stays in registers.
+// A store that is the last act of an instruction. Both functions are drawn into what stores: a call hands the record over in memory.
 ghost use Rattle.acts.specs.Acts.{Performs, save, fin, go_on};
 
 use crate::record::Registers;

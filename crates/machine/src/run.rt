@@ -22,7 +22,7 @@ fn end_by(stop: Stop, r: Registers) -> Ran
 }
 
 // One step by the general way: the registers that the run goes on with, or how it ended with this step. The call is good.
-// Drawn into the run, and the fetch is a call: a step then hands on a record or a stop, not room for a run's answer at each step.
+// Drawn into the run, and the fetch is a call: what the call gives back then is a record or a stop, with no room for a run's answer.
 #[inline(always)]
 fn take_turn(r: Registers, pages: &[u16], memory: &mut [u16]) -> Result<Registers, Ran>
     requires { good_call (length pages.now) (length memory.old) r ≡ true }
